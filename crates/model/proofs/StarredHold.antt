@@ -1,0 +1,29 @@
+-- Every row of the table of starred cases holds, by computation.
+use lib.Dec.{T}
+use Rattle.numbers.specs.Search.{tally, passing, headOr, sum}
+use Rattle.numbers.specs.Gcd.{gcdIn, gcd}
+use Rattle.model.specs.Ownership.{owns, rank, nat, layoutOf, cellOf, cellOwner, courseCells, columnOf, ownerOf}
+use Rattle.model.specs.Sections.{countOf, elementAt, layout, count, index, cell, address, ownsAt, places, firstPlace}
+use Rattle.model.specs.Steps.{
+  processorIndex,
+  returnIndex,
+  processorStep,
+  returnStep,
+  oneStep,
+  stepsBy,
+  spread,
+  stepsOf,
+  upward,
+  going,
+  cost,
+  nextBy,
+  nextPlace,
+}
+use Rattle.model.specs.Filling.{fillBy, answer, got, paid, standing}
+use Rattle.model.specs.Questions.{firstNo, between, cellsFit, isIndex, inRange, endsFit, isPlace}
+use Rattle.model.specs.Calls.{walkOf, requestOf, fill}
+use Rattle.model.specs.Starred.{every, table}
+
+pub starred : T (every table)
+unfolding table tally passing headOr sum gcdIn gcd owns rank nat layoutOf cellOf cellOwner courseCells columnOf ownerOf countOf elementAt layout count index cell address ownsAt places firstPlace processorIndex returnIndex processorStep returnStep oneStep stepsBy spread stepsOf upward going cost nextBy nextPlace fillBy answer got paid standing firstNo between cellsFit isIndex inRange endsFit isPlace walkOf requestOf fill
+starred = tt

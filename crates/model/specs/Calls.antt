@@ -1,0 +1,75 @@
+-- What each call answers: the full result, or the number of the first question that is answered no with every other field 0.
+-- Definitions only.
+use Prim.Native.Nat.{ℕ}
+use mathlib.Core.Bool.{cond}
+use mathlib.Core.List.{List, _++_}
+use lib.Dec.{eqb}
+use lib.IntN.{ℤ}
+use Rattle.model.specs.declared.Mapping.{Mapping}
+use Rattle.model.specs.declared.Section.{Section}
+use Rattle.model.specs.Ownership.{nat, layoutOf, ownerOf, rank, held, backTo}
+use Rattle.model.specs.Sections.{count, address}
+use Rattle.model.specs.Steps.{cost, nextPlace}
+use Rattle.model.specs.Filling.{Walk, Request, Outcome, answer}
+use Rattle.model.specs.Questions.{Question, firstNo, ofMapping, ofSection, ofProcessor, ofIndex, ofAddress, ofPlace, ofQuota}
+
+-- ---- ownership, going back, local count
+
+pub record OwnershipAnswer : Type 0 where
+  pub refusal : ℕ
+  pub processor : ℕ
+  pub address : ℕ
+
+-- processor and local address of element i
+unfoldable pub ownership : Mapping → ℤ → OwnershipAnswer
+ownership m i =
+    let e = firstNo (ofMapping m ++ ofIndex m i) in
+    let o = ownerOf (layoutOf m) in
+    cond (eqb e 0) (record { refusal = 0; processor = o (nat i); address = rank o (nat i) })
+    (record { refusal = e; processor = 0; address = 0 })
+
+pub record GoingBackAnswer : Type 0 where
+  pub refusal : ℕ
+  pub index : ℕ
+
+-- the element at an address of processor q
+unfoldable pub goingBack : Mapping → ℤ → ℤ → GoingBackAnswer
+goingBack m q a =
+    let e = firstNo (ofMapping m ++ ofProcessor m q ++ ofAddress m q a) in
+    cond (eqb e 0) (record { refusal = 0; index = backTo (ownerOf (layoutOf m)) (nat (m .size)) (nat q) (nat a) })
+    (record { refusal = e; index = 0 })
+
+pub record LocalCountAnswer : Type 0 where
+  pub refusal : ℕ
+  pub elements : ℕ
+
+-- how many elements processor q holds
+unfoldable pub localCount : Mapping → ℤ → LocalCountAnswer
+localCount m q =
+    let e = firstNo (ofMapping m ++ ofProcessor m q) in
+    cond (eqb e 0) (record { refusal = 0; elements = held (ownerOf (layoutOf m)) (nat (m .size)) (nat q) })
+    (record { refusal = e; elements = 0 })
+
+-- ---- fill
+
+pub record FillCall : Type 0 where
+  pub section : Section
+  pub processor : ℤ
+  pub place : ℤ
+  pub quota : ℤ
+  pub list : List ℕ
+
+abbrev pub ofFill : FillCall → List Question
+ofFill c =
+    ofSection (c .section) ++ ofProcessor (c .section .mapping) (c .processor) ++ ofPlace (c .section) (c .processor) (c .place)
+    ++ ofQuota (c .quota)
+
+-- a section's walk; a fill goes on while 3 tries are left
+unfoldable pub walkOf : Section → Walk
+walkOf x = record { address = address x; cost = cost x; next = nextPlace x; count = count x; least = 3 }
+
+unfoldable pub requestOf : FillCall → Request
+requestOf c = record { refusal = firstNo (ofFill c); place = nat (c .place); quota = nat (c .quota); list = c .list }
+
+unfoldable pub fill : FillCall → Outcome
+fill c = answer (walkOf (c .section)) (requestOf c)

@@ -1,0 +1,51 @@
+-- Demand 2 as a statement, a field for each sentence. The part about addresses is over any owner of indices.
+use Prim.Native.Nat.{ℕ, _+_, _*_, _/_, _%_, _<_}
+use mathlib.Core.Path.{_≡_}
+use mathlib.Core.Logic.{_↔_}
+use mathlib.Core.Bool.{Bool, true}
+use lib.IntN.{ℤ, pos, negsuc}
+use lib.ListN.{length}
+use lib.Signed.{leZ}
+use Rattle.model.specs.declared.Triplet.{Triplet}
+use Rattle.model.specs.declared.Section.{Section}
+use Rattle.model.specs.Ownership.{ownerOf, rank, elementsOf, held, backTo}
+use Rattle.model.specs.Sections.{layout, countOf, elementAt}
+
+-- "without a gap": each number from 0 to one below the processor's number of elements is the address of one of its elements,
+-- and of no other
+pub record NoGap (owner : ℕ → ℕ) (n q : ℕ) : Type 0 where
+  pub below : (i : ℕ) → i < n → owner i ≡ q → rank owner i < held owner n q
+  pub each : (x : ℕ) → x < held owner n q → (i : ℕ) × (i < n) × (owner i ≡ q) × (rank owner i ≡ x)
+  pub once : (i j : ℕ) → owner i ≡ q → owner j ≡ q → rank owner i ≡ rank owner j → i ≡ j
+
+-- the element that processor q and address x lead back to has that owner and that address
+pub record LeadsBack (owner : ℕ → ℕ) (n q x i : ℕ) : Type 0 where
+  pub inside : i < n
+  pub processor : owner i ≡ q
+  pub address : rank owner i ≡ x
+
+-- n elements, each on one of p processors
+pub record Addressed (owner : ℕ → ℕ) (p n : ℕ) : Type 0 where
+  pub processor : (i : ℕ) → i < n → owner i < p
+  -- "its local address is the number of lower-indexed elements of the array on that processor"
+  pub address : (i : ℕ) → rank owner i ≡ length (elementsOf owner i (owner i))
+  -- "processor and address lead back to exactly that element"
+  pub back : (i : ℕ) → i < n → backTo owner n (owner i) (rank owner i) ≡ i
+  pub there : (q x : ℕ) → x < held owner n q → LeadsBack owner n q x (backTo owner n q x)
+  pub no-gap : (q : ℕ) → NoGap owner n q
+
+-- Fortran 95: going by s from l, has z not passed h?
+abbrev pub notPast : ℤ → ℤ → ℤ → Bool
+notPast (pos s) h z = leZ z h
+notPast (negsuc s) h z = leZ h z
+
+-- "a section has exactly the elements Fortran 95 gives it": l, l + s, l + 2·s and so on, as long as h is not passed
+pub record Fortran95 (x : Triplet) : Type 0 where
+  pub elements : (t : ℕ) → (t < countOf x) ↔ (notPast (x .stride) (x .upper) (elementAt x t) ≡ true)
+
+-- Demand 2, of a section that every question about it passed
+pub record Demand2 (x : Section) : Type 0 where
+  -- "the owner of an element is HPF 2.0's": floor((a·i + b) / k) mod p
+  pub owner : (i : ℕ) → ownerOf (layout x) i ≡ (layout x .stride * i + layout x .offset) / layout x .block % layout x .processors
+  pub addresses : Addressed (ownerOf (layout x)) (layout x .processors) (layout x .size)
+  pub section : Fortran95 (x .triplet)

@@ -1,0 +1,115 @@
+-- Demand 3 as one statement about a whole list of fills of one processor, a field for each sentence ("Fills one after
+-- another"). What is about a list of fills is over any walk.
+use Prim.Native.Nat.{ℕ, suc, _+_, _-_, _≤_, _<_}
+use mathlib.Core.Path.{_≡_}
+use mathlib.Core.Logic.{_⊎_}
+use mathlib.Core.Bool.{Bool, true, false, cond}
+use mathlib.Core.List.{List, [], _∷_, map}
+use lib.Dec.{eqb}
+use lib.IntN.{ℤ, pos}
+use lib.ListN.{length, getD, take, drop}
+use Rattle.numbers.specs.Search.{headOr, sum}
+use Rattle.model.specs.declared.Section.{Section}
+use Rattle.model.specs.declared.Steps.{Steps}
+use Rattle.model.specs.declared.Steps.the-variants.{NoStep, OneStep, TwoSteps}
+use Rattle.model.specs.Ownership.{ownerOf, backTo}
+use Rattle.model.specs.Sections.{layout, count, index, cell, places, firstPlace}
+use Rattle.model.specs.Steps.{cost, stepsOf}
+use Rattle.model.specs.Filling.{Walk, Request, Outcome, answer, got, reported, paid, standing, allowed}
+use Rattle.model.specs.Calls.{FillCall, walkOf, requestOf, fill}
+use Rattle.model.specs.Demand2.{NoGap}
+
+-- ---- any walk
+
+-- the walk leads from place t along these places to the count
+pub data Leads (w : Walk) : ℕ → List ℕ → Type 0 where
+  done : Leads w (w .count) []
+  on : {t : ℕ} {ts : List ℕ} → t < w .count → Leads w (w .next t) ts → Leads w t (t ∷ ts)
+
+-- an accepted request starts at the place that stands, with tries enough to go on; a refused one may be anything
+unfoldable pub Follows : Walk → ℕ → List Request → Type 0
+Follows w t [] = Unit {0}
+Follows w t (r ∷ rs) =
+    (r .refusal ≡ 0 → (r .place ≡ t) × (w .least ≤ r .quota)) × Follows w (standing t (answer w r ∷ [])) rs
+
+-- "each accepted fill adds as many elements as the rule of filling allows with its quota and list"
+unfoldable pub share : Walk → List ℕ → Request → ℕ
+share w ahead r = cond (eqb (r .refusal) 0) (allowed w ahead (r .quota) (length (r .list))) 0
+
+unfoldable pub added : Walk → List ℕ → List Request → ℕ
+added w ahead [] = 0
+added w ahead (r ∷ rs) = share w ahead r + added w (drop (share w ahead r) ahead) rs
+
+-- accepted requests whose list has an entry
+abbrev pub hasEntry : List ℕ → ℕ
+hasEntry [] = 0
+hasEntry (x ∷ xs) = 1
+
+unfoldable pub roomy : List Request → ℕ
+roomy [] = 0
+roomy (r ∷ rs) = cond (eqb (r .refusal) 0) (hasEntry (r .list)) 0 + roomy rs
+
+-- what holds of requests that follow one another along a list of places, and of their outcomes
+pub record InTurn (w : Walk) (ps : List ℕ) (rs : List Request) (os : List Outcome) : Type 0 where
+  -- as many entries as reported, and as the rule of filling allows
+  pub entries : length (got os) ≡ reported os
+  pub rule : reported os ≡ added w ps rs
+  -- the entries are the addresses of the first elements, in section order; the tries are their costs
+  pub addresses : got os ≡ map (w .address) (take (reported os) ps)
+  pub tries : paid os ≡ sum (map (w .cost) (take (reported os) ps))
+  -- the place is that of the next element, or the count if there is none
+  pub place : standing (headOr (w .count) ps) os ≡ headOr (w .count) (drop (reported os) ps)
+  -- enough fills reach the count
+  pub reaches : length ps ≤ roomy rs → standing (headOr (w .count) ps) os ≡ w .count
+
+-- ---- a section
+
+-- an accepted fill agrees with the section and the processor, and starts at the place that stands
+unfoldable pub FollowsOn : Section → ℕ → ℕ → List FillCall → Type 0
+FollowsOn x q t [] = Unit {0}
+FollowsOn x q t (c ∷ cs) =
+    (fill c .refusal ≡ 0 → (c .section ≡ x) × (c .processor ≡ pos q) × (c .place ≡ pos t))
+    × FollowsOn x q (standing t (fill c ∷ [])) cs
+
+-- entry j of what processor q got "stands for the element that its processor and address lead back to", that at position t
+pub record StandsFor (x : Section) (runs : ℕ → List FillCall) (t q j : ℕ) : Type 0 where
+  pub processor : q < layout x .processors
+  pub entry : j < length (got (map fill (runs q)))
+  pub element : backTo (ownerOf (layout x)) (layout x .size) q (getD (got (map fill (runs q))) j 0) ≡ index x t
+
+-- the element at position t stands in exactly one list, exactly once
+pub record InOneList (x : Section) (runs : ℕ → List FillCall) (t : ℕ) : Type 0 where
+  pub processor : ℕ
+  pub entry : ℕ
+  pub stands : StandsFor x runs t processor entry
+  pub only : (q j : ℕ) → StandsFor x runs t q j → (q ≡ processor) × (j ≡ entry)
+
+-- "two elements lie apart by the difference of their cells' numbers"
+abbrev pub apart : ℕ → ℕ → ℕ
+apart c z = (c - z) + (z - c)
+
+-- d cells are the processor step, the return step or their sum; or the one step
+abbrev pub IsStep : Steps → ℕ → Type 0
+IsStep NoStep d = ⊥
+IsStep (OneStep m) d = d ≡ m .cells
+IsStep (TwoSteps r w) d = (d ≡ r .cells) ⊎ ((d ≡ w .cells) ⊎ (d ≡ r .cells + w .cells))
+
+-- Demand 3, of a section that every question about it passed
+pub record Demand3 (x : Section) : Type 0 where
+  -- every list of fills of a processor, refused ones among them, from its first place
+  pub fills :
+      (q : ℕ) → q < layout x .processors → (cs : List FillCall) → FollowsOn x q (firstPlace x q) cs
+      → InTurn (walkOf x) (places x q) (map requestOf cs) (map fill cs)
+  -- where each processor's fills reached the count, each element of the section stands in exactly one list, once
+  pub once :
+      (runs : ℕ → List FillCall)
+      → ((q : ℕ) → q < layout x .processors
+      → FollowsOn x q (firstPlace x q) (runs q) × (standing (firstPlace x q) (map fill (runs q)) ≡ count x))
+      → (t : ℕ) → t < count x → InOneList x runs t
+  pub no-gap : (q : ℕ) → NoGap (ownerOf (layout x)) (layout x .size) q
+  -- neighbours in a processor's list lie a step apart
+  pub neighbours :
+      (q j : ℕ) → suc j < length (places x q)
+      → IsStep (stepsOf x) (apart (cell x (getD (places x q) j 0)) (cell x (getD (places x q) (suc j) 0)))
+  -- going on takes at most 3 tries
+  pub cheap : (t : ℕ) → cost x t ≤ 3

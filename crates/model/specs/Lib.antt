@@ -1,0 +1,12 @@
+-- Document 01 as definitions, in its order, and its demands as statements.
+pub mod Ownership
+pub mod Sections
+pub mod Steps
+pub mod Filling
+pub mod Questions
+pub mod Sized
+pub mod Calls
+pub mod Demand2
+pub mod Demand3
+pub mod ByteFills
+pub mod Starred

@@ -1,0 +1,90 @@
+-- Document 01, "Questions, in order": 1 to 11. Definitions only.
+use Prim.Native.Nat.{ℕ, _-_}
+use mathlib.Core.Bool.{Bool, not, cond, _&&_, _||_}
+use mathlib.Core.List.{List, [], _∷_, _++_}
+use lib.Dec.{ltb, eqb}
+use lib.IntN.{ℤ, pos, negsuc, natAbs, _+ℤ_, _-ℤ_, _*ℤ_}
+use lib.Signed.{leZ, ltZ}
+use Rattle.model.specs.declared.Mapping.{Mapping}
+use Rattle.model.specs.declared.Triplet.{Triplet}
+use Rattle.model.specs.declared.Section.{Section}
+use Rattle.model.specs.Ownership.{nat, layoutOf, ownerOf, held}
+use Rattle.model.specs.Sections.{countOf, elementAt, count, ownsAt}
+
+pub record Question : Type 0 where
+  pub number : ℕ
+  pub holds : Bool
+
+abbrev pub ask : ℕ → Bool → Question
+ask n b = record { number = n; holds = b }
+
+-- a call "stops at the first no": the number of that question, or 0
+unfoldable pub firstNo : List Question → ℕ
+firstNo [] = 0
+firstNo (q ∷ qs) = let r = firstNo qs in cond (q .holds) r (q .number)
+
+unfoldable pub between : ℤ → ℤ → ℤ → Bool
+between low high z = leZ low z && leZ z high
+
+-- 2,147,483,647 and its negative
+abbrev pub most : ℤ
+most = pos 2147483647
+
+abbrev pub least : ℤ
+least = negsuc 2147483646
+
+-- 5, second half: if n is at least 1, is a·(n − 1) + b below T?
+unfoldable pub cellsFit : Mapping → Bool
+cellsFit m = ltZ (m .size) (pos 1) || ltZ (m .stride *ℤ (m .size -ℤ pos 1) +ℤ m .offset) (m .cells)
+
+abbrev pub ofMapping : Mapping → List Question
+ofMapping m =
+    ask 1 (between (pos 1) most (m .cells))
+    ∷ ask 2 (between (pos 1) (pos 1024) (m .processors))
+    ∷ ask 3 (between (pos 1) (pos 65536) (m .block))
+    ∷ ask 4 (between (pos 1) most (m .stride) && between (pos 0) most (m .offset))
+    ∷ ask 5 (between (pos 0) most (m .size) && cellsFit m)
+    ∷ []
+
+-- is z from 0 to n − 1?
+unfoldable pub isIndex : Mapping → ℤ → Bool
+isIndex m z = leZ (pos 0) z && ltZ z (m .size)
+
+-- 6: are l, h and s in range, and is s not 0?
+unfoldable pub inRange : Triplet → Bool
+inRange x = between least most (x .lower) && between least most (x .upper) && between least most (x .stride) && not (eqb (natAbs (x .stride)) 0)
+
+-- 7: if the count is at least 1, are the elements at the first and last position elements of the array?
+unfoldable pub endsFit : Section → Bool
+endsFit x =
+    eqb (count x) 0
+    || (isIndex (x .mapping) (elementAt (x .triplet) 0) && isIndex (x .mapping) (elementAt (x .triplet) (count x - 1)))
+
+abbrev pub ofTriplet : Section → List Question
+ofTriplet x = ask 6 (inRange (x .triplet)) ∷ ask 7 (endsFit x) ∷ []
+
+abbrev pub ofSection : Section → List Question
+ofSection x = ofMapping (x .mapping) ++ ofTriplet x
+
+-- 8
+abbrev pub ofProcessor : Mapping → ℤ → List Question
+ofProcessor m q = ask 8 (leZ (pos 0) q && ltZ q (m .processors)) ∷ []
+
+-- 9, of an element's index, and going back of an address on a processor
+abbrev pub ofIndex : Mapping → ℤ → List Question
+ofIndex m i = ask 9 (isIndex m i) ∷ []
+
+abbrev pub ofAddress : Mapping → ℤ → ℤ → List Question
+ofAddress m q a = ask 9 (leZ (pos 0) a && ltb (nat a) (held (ownerOf (layoutOf m)) (nat (m .size)) (nat q))) ∷ []
+
+-- 10: is the place the count, or a position whose element the processor owns?
+unfoldable pub isPlace : Section → ℤ → ℤ → Bool
+isPlace x q t =
+    leZ (pos 0) t && (eqb (nat t) (count x) || (ltb (nat t) (count x) && ownsAt x (nat q) (nat t)))
+
+abbrev pub ofPlace : Section → ℤ → ℤ → List Question
+ofPlace x q t = ask 10 (isPlace x q t) ∷ []
+
+-- 11
+abbrev pub ofQuota : ℤ → List Question
+ofQuota z = ask 11 (between (pos 3) (pos 1000000) z) ∷ []

@@ -1,0 +1,138 @@
+-- The starred cases of document 01, and cases of our own, as one table. Definitions only; proofs/StarredHold.antt computes it.
+use Prim.Native.Nat.{ℕ}
+use mathlib.Core.Bool.{Bool, true, false, _&&_}
+use mathlib.Core.List.{List, [], _∷_, map}
+use lib.Dec.{eqb}
+use lib.IntN.{ℤ, pos, negsuc}
+use lib.ListN.{replicate}
+use Rattle.numbers.specs.Search.{passing}
+use Rattle.model.specs.declared.Mapping.{Mapping}
+use Rattle.model.specs.declared.Triplet.{Triplet}
+use Rattle.model.specs.declared.Section.{Section}
+use Rattle.model.specs.declared.Step.{Step}
+use Rattle.model.specs.declared.Steps.{Steps}
+use Rattle.model.specs.declared.Steps.the-variants.{NoStep, OneStep, TwoSteps}
+use Rattle.model.specs.Sections.{count, index, firstPlace}
+use Rattle.model.specs.Steps.{stepsOf}
+use Rattle.model.specs.Filling.{got, reported, paid, standing}
+use Rattle.model.specs.Questions.{firstNo, ofSection}
+use Rattle.model.specs.Calls.{FillCall, fill}
+
+-- ---- equality, as a test
+
+abbrev sameList : List ℕ → List ℕ → Bool
+sameList [] [] = true
+sameList [] (y ∷ ys) = false
+sameList (x ∷ xs) [] = false
+sameList (x ∷ xs) (y ∷ ys) = eqb x y && sameList xs ys
+
+abbrev sameStep : Step → Step → Bool
+sameStep a b = eqb (a .cells) (b .cells) && eqb (a .courses) (b .courses) && eqb (a .column) (b .column)
+
+abbrev sameSteps : Steps → Steps → Bool
+sameSteps NoStep NoStep = true
+sameSteps NoStep (OneStep b) = false
+sameSteps NoStep (TwoSteps b d) = false
+sameSteps (OneStep a) NoStep = false
+sameSteps (OneStep a) (OneStep b) = sameStep a b
+sameSteps (OneStep a) (TwoSteps b d) = false
+sameSteps (TwoSteps a c) NoStep = false
+sameSteps (TwoSteps a c) (OneStep b) = false
+sameSteps (TwoSteps a c) (TwoSteps b d) = sameStep a b && sameStep c d
+
+-- ---- rows
+
+pub data Row : Type 0 where
+  -- a section has this refusal and these elements
+  elements : Section → ℕ → List ℕ → Row
+  -- a section has these steps
+  steps : Section → Steps → Row
+  -- from a processor's first place fills with these quotas, into lists of 8, give these entries, tries and next place;
+  -- a quota of 2 is refused
+  fills : Section → ℕ → ℕ → List ℕ → List ℕ → ℕ → ℕ → Row
+
+-- the fills of processor q with these quotas, each from the place that stands
+abbrev runFrom : Section → ℕ → ℕ → List ℕ → List FillCall
+runFrom x q t [] = []
+runFrom x q t (z ∷ zs) =
+    let c : FillCall = record { section = x; processor = pos q; place = pos t; quota = pos z; list = replicate 8 77 } in
+    c ∷ runFrom x q (standing t (fill c ∷ [])) zs
+
+abbrev pub holds : Row → Bool
+holds (elements x e xs) = eqb (firstNo (ofSection x)) e && sameList (map (index x) (passing (λ t. true) 0 (count x))) xs
+holds (steps x s) = sameSteps (stepsOf x) s
+holds (fills x q t quotas xs tries next) =
+    let os = map fill (runFrom x q t quotas) in
+    eqb (firstPlace x q) t && sameList (got os) xs && eqb (paid os) tries && eqb (standing t os) next
+
+abbrev pub every : List Row → Bool
+every [] = true
+every (r ∷ rs) = holds r && every rs
+
+-- ---- the sections of the table
+
+abbrev mapped : ℕ → ℕ → ℕ → ℕ → ℕ → ℕ → Mapping
+mapped T p k a b n =
+    record { cells = pos T; processors = pos p; block = pos k; stride = pos a; offset = pos b; size = pos n }
+
+abbrev on : Mapping → ℤ → ℤ → ℤ → Section
+on m l h s = record { mapping = m; triplet = record { lower = l; upper = h; stride = s } }
+
+-- 0:95:7 and 91:0:-7 on T 96, p 3, k 4
+abbrev forward : Section
+forward = on (mapped 96 3 4 1 0 96) (pos 0) (pos 95) (pos 7)
+
+abbrev backward : Section
+backward = on (mapped 96 3 4 1 0 96) (pos 91) (pos 0) (negsuc 6)
+
+-- document 004, figure 8.1
+abbrev aligned : Section
+aligned = on (mapped 144 4 4 3 0 48) (pos 0) (pos 47) (pos 3)
+
+-- one step
+abbrev single : Section
+single = on (mapped 12 3 2 1 0 12) (pos 0) (pos 11) (pos 6)
+
+-- our own: 0:90:7 with its elements moved on by 5 cells
+abbrev offset : Section
+offset = on (mapped 96 3 4 1 5 91) (pos 0) (pos 90) (pos 7)
+
+abbrev ofSize : ℕ → ℤ → ℤ → ℤ → Section
+ofSize n l h s = on (mapped 12 3 2 1 0 n) l h s
+
+abbrev step : ℕ → ℕ → ℕ → Step
+step x c y = record { cells = x; courses = c; column = y }
+
+unfoldable pub table : List Row
+table =
+    fills forward 0 0 (100 ∷ []) (0 ∷ 6 ∷ 17 ∷ 23 ∷ 28 ∷ []) 8 14
+    ∷ fills forward 1 1 (100 ∷ []) (3 ∷ 8 ∷ 14 ∷ 25 ∷ 31 ∷ []) 9 14
+    ∷ fills forward 2 3 (100 ∷ []) (5 ∷ 11 ∷ 16 ∷ 22 ∷ []) 7 14
+    ∷ steps forward (TwoSteps (step 14 1 2) (step 21 2 3))
+    ∷ fills forward 0 0 (4 ∷ []) (0 ∷ 6 ∷ []) 4 7
+    ∷ fills backward 1 0 (100 ∷ []) (31 ∷ 25 ∷ 14 ∷ 8 ∷ 3 ∷ []) 8 14
+    ∷ fills aligned 0 0 (100 ∷ []) (0 ∷ 2 ∷ 7 ∷ 9 ∷ []) 7 16
+    ∷ fills aligned 1 4 (100 ∷ []) (2 ∷ 4 ∷ 9 ∷ 11 ∷ []) 7 16
+    ∷ fills aligned 2 1 (100 ∷ []) (0 ∷ 2 ∷ 5 ∷ 7 ∷ []) 7 16
+    ∷ fills aligned 3 5 (100 ∷ []) (3 ∷ 5 ∷ 8 ∷ 10 ∷ []) 7 16
+    ∷ steps single (OneStep (step 6 1 0))
+    ∷ fills single 0 0 (100 ∷ []) (0 ∷ 2 ∷ []) 2 2
+    ∷ fills single 1 2 (100 ∷ []) [] 0 2
+    ∷ fills single 2 2 (100 ∷ []) [] 0 2
+    ∷ elements (ofSize 0 (pos 5) (pos 1) (pos 3)) 0 []
+    ∷ elements (ofSize 10 (pos 9) (pos 0) (negsuc 3)) 0 (9 ∷ 5 ∷ 1 ∷ [])
+    ∷ elements (ofSize 8 (pos 0) (pos 10) (pos 7)) 0 (0 ∷ 7 ∷ [])
+    ∷ elements (ofSize 8 (pos 0) (pos 14) (pos 7)) 7 (0 ∷ 7 ∷ 14 ∷ [])
+    -- our own: 5:4:3 has no elements
+    ∷ elements (ofSize 8 (pos 5) (pos 4) (pos 3)) 0 []
+    -- a second fill goes on where the first one stopped, also after a refused one, and a quota may end inside a list
+    ∷ fills forward 0 0 (4 ∷ 100 ∷ []) (0 ∷ 6 ∷ 17 ∷ 23 ∷ 28 ∷ []) 8 14
+    ∷ fills forward 0 0 (4 ∷ 2 ∷ 100 ∷ []) (0 ∷ 6 ∷ 17 ∷ 23 ∷ 28 ∷ []) 8 14
+    ∷ fills forward 1 1 (3 ∷ 6 ∷ []) (3 ∷ 8 ∷ 14 ∷ []) 6 11
+    -- an offset, whose cells take no address
+    ∷ fills offset 0 1 (100 ∷ []) (0 ∷ 6 ∷ 17 ∷ 23 ∷ []) 7 13
+    ∷ fills offset 1 0 (100 ∷ []) (0 ∷ 6 ∷ 11 ∷ 17 ∷ 28 ∷ []) 8 13
+    ∷ fills offset 2 4 (100 ∷ []) (9 ∷ 15 ∷ 20 ∷ 26 ∷ []) 7 13
+    -- one element has no steps
+    ∷ steps (ofSize 8 (pos 3) (pos 3) (pos 1)) NoStep
+    ∷ []

@@ -1,0 +1,61 @@
+// What a reader must believe: the terms of document 01 as types here, and as definitions
+// in specs/. The demands are stated in specs/ too; what follows from the definitions is
+// proved in proofs/. Nothing here runs.
+
+// An element's index, a cell's number, a local address and a section position, each
+// counted from 0: four types, so that none is taken for another.
+pub struct Index(pub u64);
+
+pub struct Cell(pub u64);
+
+pub struct Address(pub u64);
+
+pub struct Position(pub u64);
+
+// A mapping as a caller passes it: T, p, k, a, b and n of document 01.
+pub struct Mapping {
+    pub cells: i64,
+    pub processors: i64,
+    pub block: i64,
+    pub stride: i64,
+    pub offset: i64,
+    pub size: i64,
+}
+
+// A mapping that passed its questions, as natural numbers.
+pub struct Layout {
+    pub cells: u64,
+    pub processors: u64,
+    pub block: u64,
+    pub stride: u64,
+    pub offset: u64,
+    pub size: u64,
+}
+
+// A triplet l:h:s as a caller passes it.
+pub struct Triplet {
+    pub lower: i64,
+    pub upper: i64,
+    pub stride: i64,
+}
+
+// A section of an array.
+pub struct Section {
+    pub mapping: Mapping,
+    pub triplet: Triplet,
+}
+
+// A step: its cells, its courses, and by how many columns it moves. The return step moves
+// as many columns back.
+pub struct Step {
+    pub cells: u64,
+    pub courses: u64,
+    pub column: u64,
+}
+
+// The steps of a section: the processor step and the return step, or one step, or none.
+pub enum Steps {
+    NoStep,
+    OneStep(Step),
+    TwoSteps(Step, Step),
+}

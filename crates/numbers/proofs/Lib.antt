@@ -1,0 +1,10 @@
+-- The laws of the definitions of `numbers`, for the proofs of this crate and of those that use it.
+pub mod Division
+pub mod SearchLaws
+pub mod GcdLaws
+pub mod SumLaws
+pub mod Depth
+pub mod HitLaws
+pub mod Tests
+pub mod Signed
+pub mod WordLaws

@@ -1,7 +1,6 @@
 -- Demand 2 holds of every accepted section. Assumes nothing.
 use Prim.Native.Nat.{ℕ, _<_}
 use mathlib.Core.Path.{_≡_, refl, ap}
-use native.Mathlib.Nat.{mod-lt}
 use native.Mathlib.Omega.{arith}
 use lib.IntN.{pos, natAbs}
 use Rattle.model.specs.declared.Layout.{Layout}
@@ -11,12 +10,13 @@ use Rattle.model.specs.Sections.{layout}
 use Rattle.model.specs.Questions.{firstNo, ofSection}
 use Rattle.model.specs.Demand2.{Demand2}
 use Rattle.model.proofs.AddressLaws.{addressed}
+use Rattle.model.proofs.CellOwners.{cell-owner-lt}
 use Rattle.model.proofs.QuestionLaws.{accepted}
 use Rattle.model.proofs.TripletLaws.{fortran95}
 
 pub owner-lt : (m : Layout) → 0 < m .processors → (i : ℕ) → ownerOf m i < m .processors
-unfolding ownerOf cellOwner
-owner-lt m h i = mod-lt _ h
+unfolding ownerOf
+owner-lt m h i = cell-owner-lt m h (cellOf m i)
 
 pub demand2 : (x : Section) → firstNo (ofSection x) ≡ 0 → Demand2 x
 unfolding ownerOf cellOwner cellOf

@@ -1,24 +1,25 @@
--- Demand 3 of an accepted section of which the walk theorem holds.
+-- Demand 3 holds of every accepted section. Assumes nothing.
 use Prim.Native.Nat.{ℕ, zero, suc, _<_, zero-le}
 use mathlib.Core.Path.{_≡_, refl, sym, ap, _∙_}
 use mathlib.Core.List.{List, [], _∷_, _++_, map, append-nil}
-use native.Mathlib.Nat.{mod-lt, not-suc-le-zero, le-of-suc-le-suc}
+use native.Mathlib.Nat.{not-suc-le-zero, le-of-suc-le-suc}
 use native.Mathlib.Omega.{arith}
 use lib.ListN.{length, getD, take, drop, length-map, take-append-drop}
 use Rattle.numbers.specs.Search.{tally}
 use Rattle.numbers.proofs.SearchLaws.{tally-none, listed, found}
 use Rattle.model.specs.declared.Section.{Section}
-use Rattle.model.specs.Ownership.{cellOwner, ownerOf, rank, backTo}
+use Rattle.model.specs.Ownership.{ownerOf, rank, backTo}
 use Rattle.model.specs.Sections.{layout, count, index, address, ownsAt, places, firstPlace}
 use Rattle.model.specs.Filling.{got, reported, standing}
 use Rattle.model.specs.Questions.{firstNo, ofSection}
 use Rattle.model.specs.Calls.{FillCall, walkOf, fill}
 use Rattle.model.specs.Demand3.{FollowsOn, StandsFor, InOneList, Demand3}
 use Rattle.model.proofs.QuestionLaws.{accepted}
+use Rattle.model.proofs.Demand2Holds.{owner-lt}
 use Rattle.model.proofs.SectionLaws.{index-lt, index-inj}
 use Rattle.model.proofs.AddressLaws.{owns-of, of-owns, back-rank, no-gap}
 use Rattle.model.proofs.InTurnLaws.{leads-drop, leads-done}
-use Rattle.model.proofs.SectionFills.{Walks, places-lead, section-fills}
+use Rattle.model.proofs.SectionFills.{places-lead, section-fills}
 use Rattle.model.proofs.NeighbourLaws.{cost-le, neighbours-apart}
 
 getD-map : (g : ℕ → ℕ) (l : List ℕ) (j : ℕ) → j < length l → getD (map g l) j 0 ≡ g (getD l j 0)
@@ -42,15 +43,15 @@ at-place x q j h =
       nth = omega (arith, r .nth, tally-none (ownsAt x q));
     }
 
-module _ (x : Section) (ok : firstNo (ofSection x) ≡ 0) (walks : Walks x) where
+module _ (x : Section) (ok : firstNo (ofSection x) ≡ 0) where
   -- fills that reached the count got the addresses of all the processor's elements
   full : (q : ℕ) (cs : List FillCall) → FollowsOn x q (firstPlace x q) cs → standing (firstPlace x q) (map fill cs) ≡ count x
       → got (map fill cs) ≡ map (address x) (places x q)
   unfolding walkOf firstPlace
   full q cs fs e =
       let n : ℕ = reported (map fill cs) in
-      let i = section-fills x q walks cs fs in
-      let d : drop n (places x q) ≡ [] = leads-done (leads-drop n (places-lead x q walks)) (sym (i .place) ∙ e) in
+      let i = section-fills x q ok cs fs in
+      let d : drop n (places x q) ≡ [] = leads-done (leads-drop n (places-lead x q ok)) (sym (i .place) ∙ e) in
       let t : take n (places x q) ≡ places x q =
       sym (append-nil (take n (places x q))) ∙ ap (λ (z : List ℕ). take n (places x q) ++ z) (sym d) ∙ take-append-drop n (places x q) in
       i .addresses ∙ ap (map (address x)) t
@@ -60,10 +61,6 @@ module _ (x : Section) (ok : firstNo (ofSection x) ≡ 0) (walks : Walks x) wher
   leads-back q j t a =
       ap (λ (o : ℕ). backTo (ownerOf (layout x)) (layout x .size) o (rank (ownerOf (layout x)) (index x t))) (sym (a .owner))
       ∙ back-rank (ownerOf (layout x)) (layout x .size) (index x t) (index-lt x ok t (a .below))
-
-  owner-lt : (i : ℕ) → ownerOf (layout x) i < layout x .processors
-  unfolding ownerOf cellOwner
-  owner-lt i = mod-lt _ (accepted x ok .sized .processors-pos)
 
   module _ (runs : ℕ → List FillCall)
       (all : (q : ℕ) → q < layout x .processors
@@ -95,7 +92,7 @@ module _ (x : Section) (ok : firstNo (ofSection x) ≡ 0) (walks : Walks x) wher
     once t h =
         let q : ℕ = ownerOf (layout x) (index x t) in
         let f = found (ownsAt x q) (count x) 0 t zero-le (omega arith) (owns-of (ownerOf (layout x)) q (index x t) refl) in
-        let s : StandsFor x runs t q (f .0) = rw (f .2) at (entry q (f .0) (owner-lt (index x t)) (f .1)) in
+        let s : StandsFor x runs t q (f .0) = rw (f .2) at (entry q (f .0) (owner-lt (layout x) (accepted x ok .sized .processors-pos) (index x t)) (f .1)) in
         record {
           processor = q;
           entry = f .0;
@@ -106,9 +103,9 @@ module _ (x : Section) (ok : firstNo (ofSection x) ≡ 0) (walks : Walks x) wher
   -- demand 3
   pub demand3 : Demand3 x
   demand3 = record {
-    fills = λ q h. section-fills x q walks;
+    fills = λ q h. section-fills x q ok;
     once = once;
     no-gap = no-gap (ownerOf (layout x)) (layout x .size);
-    neighbours = neighbours-apart x ok walks;
+    neighbours = neighbours-apart x ok;
     cheap = cost-le x;
   }

@@ -1,5 +1,5 @@
 -- The fills that demand 3 speaks of exist: one more fill from the place that stands is not refused, and so the fills of every
--- processor can be brought to the count. For sections of which the walk theorem holds.
+-- processor can be brought to the count.
 use Prim.Native.Nat.{ℕ, zero, suc, _+_, _≤_, _<_, zero-le}
 use mathlib.Core.Path.{_≡_, refl, _∙_}
 use mathlib.Core.Bool.{Bool, true, false, or-true}
@@ -20,7 +20,7 @@ use Rattle.model.specs.Calls.{FillCall, ofFill, walkOf, requestOf, fill}
 use Rattle.model.specs.Demand3.{hasEntry, roomy, FollowsOn}
 use Rattle.model.proofs.QuestionLaws.{all-yes, asks-on, none-no, is-below}
 use Rattle.model.proofs.AddressLaws.{owns-of}
-use Rattle.model.proofs.SectionFills.{Walks, section-fills}
+use Rattle.model.proofs.SectionFills.{section-fills}
 use Rattle.model.proofs.Demand3Holds.{At, at-place}
 
 -- ---- the place that stands is one
@@ -56,7 +56,7 @@ unfolding roomy
 roomy-more [] r e = rw e (omega arith)
 roomy-more (s ∷ rs) r e = omega (arith, roomy-more rs r e)
 
-module _ (x : Section) (ok : firstNo (ofSection x) ≡ 0) (walks : Walks x) (q : ℕ) (h : q < layout x .processors) where
+module _ (x : Section) (ok : firstNo (ofSection x) ≡ 0) (q : ℕ) (h : q < layout x .processors) where
   -- the place that stands after these fills
   abbrev after : List FillCall → ℕ
   after cs = standing (firstPlace x q) (map fill cs)
@@ -65,7 +65,7 @@ module _ (x : Section) (ok : firstNo (ofSection x) ≡ 0) (walks : Walks x) (q :
       → (quota : ℕ) (xs : List ℕ) → 3 ≤ quota → quota ≤ 1000000 → firstNo (ofFill (callAt x q (after cs) quota xs)) ≡ 0
   unfolding between layout layoutOf firstPlace walkOf
   next-accepted cs fs quota xs lo hi =
-      let i = section-fills x q walks cs fs in
+      let i = section-fills x q ok cs fs in
       let last = ofProcessor (x .mapping) (pos q) ++ ofPlace x (pos q) (pos (after cs)) ++ ofQuota (pos quota) in
       let place : isPlace x (pos q) (pos (after cs)) ≡ true = rw (i .place) (place-left x q (reported (map fill cs))) in
       asks-on (ofSection x) last (all-yes (ofSection x) refl ok)
@@ -90,15 +90,15 @@ module _ (x : Section) (ok : firstNo (ofSection x) ≡ 0) (walks : Walks x) (q :
   unfolding walkOf firstPlace
   reach-count =
       let m = many (length (places x q)) in
-      (m .0, m .1, section-fills x q walks (m .0) (m .1) .reaches (m .2))
+      (m .0, m .1, section-fills x q ok (m .0) (m .1) .reaches (m .2))
 
 -- fills of every processor that reach the count
-module _ (x : Section) (ok : firstNo (ofSection x) ≡ 0) (walks : Walks x) where
+module _ (x : Section) (ok : firstNo (ofSection x) ≡ 0) where
   abbrev Reached : ℕ → List FillCall → Type 0
   Reached q cs = FollowsOn x q (firstPlace x q) cs × (standing (firstPlace x q) (map fill cs) ≡ count x)
 
   run : (q : ℕ) (b : Bool) → ltb q (layout x .processors) ≡ b → (cs : List FillCall) × (q < layout x .processors → Reached q cs)
-  run q true e = let r = reach-count x ok walks q (ltb-true q _ e) in (r .0, λ h. (r .1, r .2))
+  run q true e = let r = reach-count x ok q (ltb-true q _ e) in (r .0, λ h. (r .1, r .2))
   run q false e = ([], λ h. absurd (omega (arith, ltb-false q _ e)))
 
   pub runs-exist : (runs : ℕ → List FillCall) × ((q : ℕ) → q < layout x .processors → Reached q (runs q))

@@ -1,10 +1,21 @@
--- What follows from the definitions: the starred cases, demand 2, demand 3.
+-- What follows from the definitions.
+-- the starred cases, and demand 2
 pub mod StarredHold
 pub mod AddressLaws
 pub mod QuestionLaws
 pub mod TripletLaws
 pub mod Demand2Holds
+-- sections, their steps, and the walk by them
 pub mod SectionLaws
+pub mod Rests
+pub mod CellOwners
+pub mod Turns
+pub mod StepSearch
+pub mod StepEnds
+pub mod StepLaws
+pub mod WalkLaws
+pub mod WalkTheorem
+-- fills one after another, and demand 3
 pub mod InTurnLaws
 pub mod SectionFills
 pub mod NeighbourLaws

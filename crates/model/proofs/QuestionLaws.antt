@@ -9,6 +9,7 @@ use lib.Dec.{leb, ltb, eqb}
 use lib.IntN.{ℤ, pos, negsuc, natAbs, _+ℤ_, _-ℤ_, _*ℤ_}
 use lib.Signed.{leZ, ltZ}
 use borrow.Author.Tests.{ltb-true, leb-true, le-ltb, le-leb, lt-ltb, eqb-true, eqb-false, ne-eqb, not-true}
+use Rattle.numbers.proofs.Tests.{both-true}
 use Rattle.model.specs.declared.Mapping.{Mapping}
 use Rattle.model.specs.declared.Triplet.{Triplet}
 use Rattle.model.specs.declared.Section.{Section}
@@ -32,14 +33,6 @@ use Rattle.model.specs.Questions.{
 
 -- ---- lists of questions
 
-pub and-left : (a b : Bool) → (a && b) ≡ true → a ≡ true
-and-left true b e = refl
-and-left false b e = e
-
-pub and-right : (a b : Bool) → (a && b) ≡ true → b ≡ true
-and-right true b e = e
-and-right false b e = absurd (true≢false (sym e))
-
 abbrev pub AllYes : List Question → Type 0
 AllYes [] = Unit {0}
 AllYes (q ∷ qs) = (q .holds ≡ true) × AllYes qs
@@ -52,13 +45,13 @@ numbered (q ∷ qs) = ltb 0 (q .number) && numbered qs
 pub all-yes : (qs : List Question) → numbered qs ≡ true → firstNo qs ≡ 0 → AllYes qs
 unfolding firstNo
 all-yes [] n e = tt
-all-yes (q ∷ qs) n e = go (all-yes qs (and-right (ltb 0 (q .number)) (numbered qs) n)) (q .holds) refl
+all-yes (q ∷ qs) n e = go (all-yes qs (both-true (ltb 0 (q .number)) (numbered qs) n .1)) (q .holds) refl
   where
     go : (firstNo qs ≡ 0 → AllYes qs) → (b : Bool) → q .holds ≡ b → (q .holds ≡ true) × AllYes qs
     go ih true p = (p, ih (rw p at e))
     go ih false p =
         let z : q .number ≡ 0 = rw p at e in
-        absurd (omega (arith, ltb-true 0 (q .number) (and-left (ltb 0 (q .number)) (numbered qs) n)))
+        absurd (omega (arith, ltb-true 0 (q .number) (both-true (ltb 0 (q .number)) (numbered qs) n .0)))
 
 -- where all of xs hold, ys decide
 pub asks-on : (xs ys : List Question) → AllYes xs → firstNo (xs ++ ys) ≡ firstNo ys
@@ -77,7 +70,8 @@ unfolding firstNo
 stops [] ys f = absurd (f refl)
 stops (x ∷ xs) ys f = go (stops xs ys) (x .holds) refl
   where
-    go : ((firstNo xs ≡ 0 → ⊥) → firstNo (xs ++ ys) ≡ firstNo xs) → (b : Bool) → x .holds ≡ b → firstNo ((x ∷ xs) ++ ys) ≡ firstNo (x ∷ xs)
+    go : ((firstNo xs ≡ 0 → ⊥) → firstNo (xs ++ ys) ≡ firstNo xs) → (b : Bool) → x .holds ≡ b
+        → firstNo ((x ∷ xs) ++ ys) ≡ firstNo (x ∷ xs)
     go ih true p = rw p (ih (λ e. f (rw p e)))
     go ih false p = rw p
 
@@ -103,8 +97,8 @@ unfolding between nat
 between-is low high (pos n) e =
     record {
       whole = refl;
-      from = leb-true low n (and-left (leb low n) (leb n high) e);
-      upto = leb-true n high (and-right (leb low n) (leb n high) e);
+      from = leb-true low n (both-true (leb low n) (leb n high) e .0);
+      upto = leb-true n high (both-true (leb low n) (leb n high) e .1);
     }
 between-is low high (negsuc n) e = absurd (true≢false (sym e))
 
@@ -112,7 +106,7 @@ between-is low high (negsuc n) e = absurd (true≢false (sym e))
 pub size-is : (z : ℤ) → between least most z ≡ true → natAbs z ≤ 2147483647
 unfolding between
 size-is (pos n) e = leb-true n 2147483647 e
-size-is (negsuc n) e = omega (arith, leb-true n 2147483646 (and-left (leb n 2147483646) true e))
+size-is (negsuc n) e = omega (arith, leb-true n 2147483646 (both-true (leb n 2147483646) true e .0))
 
 -- an integer from 0 to n - 1
 pub record Below (z : ℤ) (n : ℕ) : Type 0 where
@@ -121,8 +115,8 @@ pub record Below (z : ℤ) (n : ℕ) : Type 0 where
 
 pub below-is : (z n : ℤ) → (leZ (pos 0) z && ltZ z n) ≡ true → Below z (nat n)
 unfolding nat
-below-is (pos c) (pos n) e = record { whole = refl; below = ltb-true c n (and-right (leb 0 c) (ltb c n) e) }
-below-is (pos c) (negsuc n) e = absurd (true≢false (sym (and-right (leb 0 c) false e)))
+below-is (pos c) (pos n) e = record { whole = refl; below = ltb-true c n (both-true (leb 0 c) (ltb c n) e .1) }
+below-is (pos c) (negsuc n) e = absurd (true≢false (sym (both-true (leb 0 c) false e .1)))
 below-is (negsuc c) n e = absurd (true≢false (sym e))
 
 pub is-below : (c : ℕ) (n : ℤ) → c < nat n → (leZ (pos 0) (pos c) && ltZ (pos c) n) ≡ true
@@ -161,13 +155,13 @@ module _ (m : Mapping) (ok : firstNo (ofMapping m) ≡ 0) where
   block-in = between-is 1 65536 (m .block) (yes-all .1 .1 .0)
 
   stride-in : Natural (m .stride) 1 2147483647
-  stride-in = between-is 1 2147483647 (m .stride) (and-left (between (pos 1) most (m .stride)) (between (pos 0) most (m .offset)) (yes-all .1 .1 .1 .0))
+  stride-in = between-is 1 2147483647 (m .stride) (both-true (between (pos 1) most (m .stride)) (between (pos 0) most (m .offset)) (yes-all .1 .1 .1 .0) .0)
 
   offset-in : Natural (m .offset) 0 2147483647
-  offset-in = between-is 0 2147483647 (m .offset) (and-right (between (pos 1) most (m .stride)) (between (pos 0) most (m .offset)) (yes-all .1 .1 .1 .0))
+  offset-in = between-is 0 2147483647 (m .offset) (both-true (between (pos 1) most (m .stride)) (between (pos 0) most (m .offset)) (yes-all .1 .1 .1 .0) .1)
 
   size-in : Natural (m .size) 0 2147483647
-  size-in = between-is 0 2147483647 (m .size) (and-left (between (pos 0) most (m .size)) (cellsFit m) (yes-all .1 .1 .1 .1 .0))
+  size-in = between-is 0 2147483647 (m .size) (both-true (between (pos 0) most (m .size)) (cellsFit m) (yes-all .1 .1 .1 .1 .0) .0)
 
   pub whole-mapping : Whole m
   unfolding layoutOf
@@ -198,7 +192,7 @@ module _ (m : Mapping) (ok : firstNo (ofMapping m) ≡ 0) where
         inside =
             cells-fit (nat (m .cells)) (nat (m .size)) (nat (m .stride)) (nat (m .offset))
             (rw (cells-in .whole, size-in .whole, stride-in .whole, offset-in .whole) at
-            (and-right (between (pos 0) most (m .size)) (cellsFit m) (yes-all .1 .1 .1 .1 .0)));
+            (both-true (between (pos 0) most (m .size)) (cellsFit m) (yes-all .1 .1 .1 .1 .0) .1));
       }
 
 -- the element at an index of the array
@@ -231,13 +225,13 @@ ranged x e =
     let b = between least most (x .upper) in
     let c = between least most (x .stride) in
     let d = not (eqb (natAbs (x .stride)) 0) in
-    let abc : (a && b && c) ≡ true = and-left (a && b && c) d e in
-    let ab : (a && b) ≡ true = and-left (a && b) c abc in
+    let abc : (a && b && c) ≡ true = both-true (a && b && c) d e .0 in
+    let ab : (a && b) ≡ true = both-true (a && b) c abc .0 in
     record {
-      lower = size-is (x .lower) (and-left a b ab);
-      upper = size-is (x .upper) (and-right a b ab);
-      some = not-zero (natAbs (x .stride)) (not-true (eqb (natAbs (x .stride)) 0) (and-right (a && b && c) d e));
-      step = size-is (x .stride) (and-right (a && b) c abc);
+      lower = size-is (x .lower) (both-true a b ab .0);
+      upper = size-is (x .upper) (both-true a b ab .1);
+      some = not-zero (natAbs (x .stride)) (not-true (eqb (natAbs (x .stride)) 0) (both-true (a && b && c) d e .1));
+      step = size-is (x .stride) (both-true (a && b) c abc .1);
     }
   where
     not-zero : (n : ℕ) → eqb n 0 ≡ false → 0 < n
@@ -273,6 +267,6 @@ module _ (x : Section) (ok : firstNo (ofSection x) ≡ 0) where
         upper-high = in-range .upper;
         step-pos = in-range .some;
         step-high = in-range .step;
-        first-inside = λ h. and-left first last (ends h);
-        last-inside = λ h. and-right first last (ends h);
+        first-inside = λ h. both-true first last (ends h) .0;
+        last-inside = λ h. both-true first last (ends h) .1;
       }

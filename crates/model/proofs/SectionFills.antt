@@ -1,28 +1,20 @@
--- Fills of one processor of a section, one after another: where the walk theorem holds, they are fills in turn along the
--- processor's list.
-use Prim.Native.Nat.{ℕ, suc, _-_, _≤_, _<_}
+-- Fills of one processor of a section, one after another, are fills in turn along the processor's list.
+use Prim.Native.Nat.{ℕ, _≤_}
 use mathlib.Core.Path.{_≡_, refl, ap, subst}
 use mathlib.Core.Bool.{Bool, true, false}
 use mathlib.Core.List.{List, [], _∷_, _++_, map}
 use lib.Dec.{eqb}
 use borrow.Author.Tests.{eqb-true}
-use Rattle.numbers.specs.Search.{passing, headOr}
 use Rattle.model.specs.declared.Section.{Section}
 use Rattle.model.specs.Ownership.{nat}
-use Rattle.model.specs.Sections.{count, ownsAt, places, firstPlace}
-use Rattle.model.specs.Steps.{nextPlace}
+use Rattle.model.specs.Sections.{ownsAt, places, firstPlace}
 use Rattle.model.specs.Filling.{Outcome, answer, standing}
-use Rattle.model.specs.Questions.{ofSection, ofProcessor, ofPlace, ofQuota}
+use Rattle.model.specs.Questions.{firstNo, ofSection, ofProcessor, ofPlace, ofQuota}
 use Rattle.model.specs.Calls.{FillCall, walkOf, requestOf, fill}
 use Rattle.model.specs.Demand3.{Leads, Follows, FollowsOn, InTurn}
 use Rattle.model.proofs.QuestionLaws.{all-yes, both-yes, between-is}
+use Rattle.model.proofs.WalkTheorem.{Walks, walks}
 use Rattle.model.proofs.InTurnLaws.{leads-passing, in-turn}
-
--- the walk theorem: the step rule leads to the next position that the processor owns, or to the count
-unfoldable pub Walks : Section → Type 0
-Walks x =
-    (q t : ℕ) → t < count x → ownsAt x q t ≡ true
-    → nextPlace x t ≡ headOr (count x) (passing (ownsAt x q) (suc t) (count x - suc t))
 
 -- ---- one call
 
@@ -62,10 +54,10 @@ module _ (x : Section) (q : ℕ) where
         (cc (r .1, e)),
       )
 
-  module _ (walks : Walks x) where
+  module _ (ok : firstNo (ofSection x) ≡ 0) where
     pub places-lead : Leads (walkOf x) (firstPlace x q) (places x q)
     unfolding Walks walkOf firstPlace places
-    places-lead = leads-passing (walkOf x) (ownsAt x q) (walks q)
+    places-lead = leads-passing (walkOf x) (ownsAt x q) (walks x ok q)
 
     pub section-fills : (cs : List FillCall) → FollowsOn x q (firstPlace x q) cs
         → InTurn (walkOf x) (places x q) (map requestOf cs) (map fill cs)

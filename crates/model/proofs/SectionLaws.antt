@@ -59,7 +59,8 @@ Moved true x y d = y ≡ x + d
 Moved false x y d = x ≡ y + d
 
 -- c positions on, the index has moved by c times the size of s, up or down
-at-moved : {n N : ℕ} {l s : ℤ} → Shape n N l s → (t c : ℕ) → t + c ≤ N → Moved (nonNeg s) (nat (elem l s t)) (nat (elem l s (t + c))) (c * natAbs s)
+at-moved : {n N : ℕ} {l s : ℤ} → Shape n N l s → (t c : ℕ) → t + c ≤ N
+    → Moved (nonNeg s) (nat (elem l s t)) (nat (elem l s (t + c))) (c * natAbs s)
 unfolding nat
 at-moved (up {L} {m} h) t c k = omega (arith, add-mul t c m)
 at-moved (down {L} {m} h g) t c k =
@@ -136,10 +137,13 @@ module _ (x : Section) (ok : firstNo (ofSection x) ≡ 0) where
     where
       clash : (v w : ℕ) → v < w → w < count x → index x v ≡ index x w → ⊥
       clash v w l m p =
+          let z : ℕ = index x (v + (w - v)) in
           let s : v + (w - v) ≡ w = omega arith in
-          let d : Moved (upward x) (index x v) (index x v) ((w - v) * natAbs (x .triplet .stride)) =
-          subst (λ (i : ℕ). Moved (upward x) (index x v) i ((w - v) * natAbs (x .triplet .stride))) (ap (index x) s ∙ sym p) (index-moved v (w - v) (omega arith)) in
-          omega (arith, moved-apart (upward x) (index x v) (index x v) _ d, mul-pos {m = w - v} {n = natAbs (x .triplet .stride)} (omega arith) (a .step-pos))
+          let same : z ≡ index x v = ap (index x) s ∙ sym p in
+          let n : ℕ = (w - v) * natAbs (x .triplet .stride) in
+          let far : apart (index x v) z ≡ n = moved-apart (upward x) (index x v) z n (index-moved v (w - v) (omega arith)) in
+          let some : 0 < n = mul-pos (omega arith) (a .step-pos) in
+          omega arith
 
       go : (b : Bool) → ltb t u ≡ b → (d : Bool) → ltb u t ≡ d → t ≡ u
       go true p d r = absurd (clash t u (ltb-true t u p) k e)

@@ -2,9 +2,12 @@
 -- the starred cases, and demand 2
 pub mod StarredHold
 pub mod AddressLaws
+pub mod HeldLaws
+pub mod SizedLaws
 pub mod QuestionLaws
 pub mod TripletLaws
 pub mod Demand2Holds
+pub mod AnswerLaws
 -- sections, their steps, and the walk by them
 pub mod SectionLaws
 pub mod Rests

@@ -20,6 +20,7 @@ use Rattle.model.specs.Questions.{
   Question,
   firstNo,
   between,
+  isBelow,
   most,
   least,
   cellsFit,
@@ -113,13 +114,13 @@ pub record Below (z : ℤ) (n : ℕ) : Type 0 where
   pub whole : z ≡ pos (nat z)
   pub below : nat z < n
 
-pub below-is : (z n : ℤ) → (leZ (pos 0) z && ltZ z n) ≡ true → Below z (nat n)
+pub below-is : (z n : ℤ) → isBelow n z ≡ true → Below z (nat n)
 unfolding nat
 below-is (pos c) (pos n) e = record { whole = refl; below = ltb-true c n (both-true (leb 0 c) (ltb c n) e .1) }
 below-is (pos c) (negsuc n) e = absurd (true≢false (sym (both-true (leb 0 c) false e .1)))
 below-is (negsuc c) n e = absurd (true≢false (sym e))
 
-pub is-below : (c : ℕ) (n : ℤ) → c < nat n → (leZ (pos 0) (pos c) && ltZ (pos c) n) ≡ true
+pub is-below : (c : ℕ) (n : ℤ) → c < nat n → isBelow n (pos c) ≡ true
 unfolding nat
 is-below c (pos n) h = rw (le-leb 0 c zero-le, lt-ltb c n h)
 is-below c (negsuc n) h = absurd (not-suc-le-zero h)

@@ -26,6 +26,10 @@ firstNo (q ∷ qs) = let r = firstNo qs in cond (q .holds) r (q .number)
 unfoldable pub between : ℤ → ℤ → ℤ → Bool
 between low high z = leZ low z && leZ z high
 
+-- is z from 0 to n − 1?
+abbrev pub isBelow : ℤ → ℤ → Bool
+isBelow n z = leZ (pos 0) z && ltZ z n
+
 -- 2,147,483,647 and its negative
 abbrev pub most : ℤ
 most = pos 2147483647
@@ -46,9 +50,8 @@ ofMapping m =
     ∷ ask 5 (between (pos 0) most (m .size) && cellsFit m)
     ∷ []
 
--- is z from 0 to n − 1?
 unfoldable pub isIndex : Mapping → ℤ → Bool
-isIndex m z = leZ (pos 0) z && ltZ z (m .size)
+isIndex m z = isBelow (m .size) z
 
 -- 6: are l, h and s in range, and is s not 0?
 unfoldable pub inRange : Triplet → Bool
@@ -68,14 +71,14 @@ ofSection x = ofMapping (x .mapping) ++ ofTriplet x
 
 -- 8
 abbrev pub ofProcessor : Mapping → ℤ → List Question
-ofProcessor m q = ask 8 (leZ (pos 0) q && ltZ q (m .processors)) ∷ []
+ofProcessor m q = ask 8 (isBelow (m .processors) q) ∷ []
 
 -- 9, of an element's index, and going back of an address on a processor
 abbrev pub ofIndex : Mapping → ℤ → List Question
 ofIndex m i = ask 9 (isIndex m i) ∷ []
 
 abbrev pub ofAddress : Mapping → ℤ → ℤ → List Question
-ofAddress m q a = ask 9 (leZ (pos 0) a && ltb (nat a) (held (ownerOf (layoutOf m)) (nat (m .size)) (nat q))) ∷ []
+ofAddress m q a = ask 9 (isBelow (pos (held (ownerOf (layoutOf m)) (nat (m .size)) (nat q))) a) ∷ []
 
 -- 10: is the place the count, or a position whose element the processor owns?
 unfoldable pub isPlace : Section → ℤ → ℤ → Bool

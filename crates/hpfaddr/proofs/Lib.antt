@@ -1,0 +1,2 @@
+-- Laws that the proofs of the C functions share.
+pub mod Parameters

@@ -1,0 +1,71 @@
+-- `hpf_ownership` meets its contract: the numbers that `ownership` answers fit the fields.
+use Prim.Native.Nat.{_^_, _<_}
+use mathlib.Core.Path.{_≡_, sym, ap, subst, _∙_}
+use borrow.Author.Needs.{needs}
+use mir.Syntax.{w64}
+use mir.ValLaws.{toZ-ofZ}
+use Rattle.model.specs.declared.Mapping.{Mapping}
+use Rattle.model.specs.Calls.{OwnershipAnswer, ownership}
+use Rattle.model.proofs.AnswerLaws.{ownership-small}
+use Rattle.mapping.specs.Answers.{mappingOf, ownedAs}
+use Rattle.hpfaddr.proofs.Parameters.{mapping-read}
+use Rattle.hpfaddr.proofs.hpf_ownership.Statement.{statement}
+use Rattle.hpfaddr.proofs.hpf_ownership.Tie as tie
+
+mapping-of-requires : tie.Need-mapping-of-requires
+mapping-of-requires c κs = search needs
+
+ownership-requires : tie.Need-ownership-requires
+ownership-requires c κs = search needs
+
+abbrev mapping : tie.Start → Mapping
+mapping s = mappingOf (s .args .cells) (s .args .processors) (s .args .block) (s .args .stride) (s .args .offset) (s .args .size)
+
+-- the answer, of the parameters
+answer : (c : tie.After-ownership) → let s : tie.Start = c .before .before in ownedAs (c .ownership .result) ≡ ownership (mapping s) (s .args .index)
+answer c =
+    let s = c .before .before in
+    let m : c .before .mapping-of .result ≡ mapping s =
+    mapping-read _ _ _ _ _ _ (s .fits .cells) (s .fits .processors) (s .fits .block) (s .fits .stride) (s .fits .offset) (s .fits .size) (c .before .mapping-of .ensures) in
+    c .ownership .ensures ∙ (λ i. ownership (m i) (toZ-ofZ w64 (s .args .index) (s .fits .index) i))
+
+enum-known-processor : tie.Need-enum-known-processor
+enum-known-processor c = search needs
+
+owned : (c : tie.After-processor) → let s : tie.Start = c .before .before .before .before in
+    record { refusal = 0; processor = c .processor .given .0 .0; address = c .processor .given .0 .1 .0 .0 } ≡ ownership (mapping s) (s .args .index)
+owned c = sym (ap ownedAs (c .processor .given .1)) ∙ answer (c .before .before)
+
+small : (c : tie.After-processor) → (c .processor .given .0 .0 < 2 ^ 32) × (c .processor .given .0 .1 .0 .0 < 2 ^ 32)
+small c =
+    let o = owned c in
+    subst (λ (a : OwnershipAnswer). (a .processor < 2 ^ 32) × (a .address < 2 ^ 32)) (sym o)
+    (ownership-small _ _ (ap (λ (a : OwnershipAnswer). a .refusal) (sym o)))
+
+cast-t14 : tie.Need-cast-t14
+cast-t14 c = record { fits = small (c .before) .0 }
+
+cast-t15 : tie.Need-cast-t15
+cast-t15 c = record { fits = small (c .before .before) .1 }
+
+enum-known-e : tie.Need-enum-known-e
+enum-known-e c = search needs
+
+returns : tie.Need-returns
+returns c = owned (c .before .before)
+
+returns-2 : tie.Need-returns-2
+returns-2 c = sym (ap ownedAs (c .before .e .given .1)) ∙ answer (c .before .before .before)
+
+pub hpf-ownership-spec : {M : Type 1} → statement M
+hpf-ownership-spec =
+    tie.close
+    (tie.spec
+    mapping-of-requires
+    ownership-requires
+    enum-known-processor
+    cast-t14
+    cast-t15
+    enum-known-e
+    returns
+    returns-2)

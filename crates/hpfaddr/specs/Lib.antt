@@ -1,0 +1,2 @@
+-- The structs that the C functions return, as the paper's numbers.
+pub mod Fields

@@ -1,0 +1,131 @@
+// The C functions of the library, for a Fortran runtime to link: numbers in, a struct of
+// numbers out by value, its first field the refusal. Each hands its numbers to the call of
+// the same name; include/hpfaddr.h and fortran/hpfaddr.f90 declare them.
+ghost use mathlib.Core.Path.{_≡_};
+ghost use Rattle.model.specs.Calls.{ownership, goingBack, localCount};
+ghost use Rattle.mapping.specs.Answers.{mappingOf};
+ghost use Rattle.hpfaddr.specs.Fields.{ownedFields, foundFields, countedFields};
+use mapping::Counted;
+use mapping::Found;
+use mapping::Owned;
+use model::Mapping;
+
+fn mapping_of(
+    cells: i64,
+    processors: i64,
+    block: i64,
+    stride: i64,
+    offset: i64,
+    size: i64,
+) -> Mapping
+    ensures { λ r. ⌜ r ≡ mappingOf cells processors block stride offset size ⌝ }
+{
+    Mapping {
+        cells,
+        processors,
+        block,
+        stride,
+        offset,
+        size,
+    }
+}
+
+#[repr(C)]
+pub struct HpfOwned {
+    pub refusal: u32,
+    pub processor: u32,
+    pub address: u32,
+}
+
+// Processor and local address of an element.
+#[no_mangle]
+pub extern "C" fn hpf_ownership(
+    cells: i64,
+    processors: i64,
+    block: i64,
+    stride: i64,
+    offset: i64,
+    size: i64,
+    index: i64,
+) -> HpfOwned
+    ensures { λ r. ⌜ ownedFields r ≡ ownership (mappingOf cells processors block stride offset size) index ⌝ }
+{
+    let m = mapping_of(cells, processors, block, stride, offset, size);
+    match mapping::ownership(m, index) {
+        Owned::At { processor, address } => HpfOwned {
+            refusal: 0,
+            processor: processor as u32,
+            address: address.0 as u32,
+        },
+        Owned::Refused(e) => HpfOwned {
+            refusal: e,
+            processor: 0,
+            address: 0,
+        },
+    }
+}
+
+#[repr(C)]
+pub struct HpfFound {
+    pub refusal: u32,
+    pub index: u32,
+}
+
+// The element at an address of a processor.
+#[no_mangle]
+pub extern "C" fn hpf_going_back(
+    cells: i64,
+    processors: i64,
+    block: i64,
+    stride: i64,
+    offset: i64,
+    size: i64,
+    processor: i64,
+    address: i64,
+) -> HpfFound
+    ensures { λ r. ⌜ foundFields r ≡ goingBack (mappingOf cells processors block stride offset size) processor address ⌝ }
+{
+    let m = mapping_of(cells, processors, block, stride, offset, size);
+    match mapping::going_back(m, processor, address) {
+        Found::At(i) => HpfFound {
+            refusal: 0,
+            index: i.0 as u32,
+        },
+        Found::Refused(e) => HpfFound {
+            refusal: e,
+            index: 0,
+        },
+    }
+}
+
+#[repr(C)]
+pub struct HpfCounted {
+    pub refusal: u32,
+    pub elements: u32,
+}
+
+// How many elements a processor holds: what storage to allocate for it.
+#[no_mangle]
+pub extern "C" fn hpf_local_count(
+    cells: i64,
+    processors: i64,
+    block: i64,
+    stride: i64,
+    offset: i64,
+    size: i64,
+    processor: i64,
+) -> HpfCounted
+    ensures { λ r. ⌜ countedFields r ≡ localCount (mappingOf cells processors block stride offset size) processor ⌝ }
+{
+    let m = mapping_of(cells, processors, block, stride, offset, size);
+    match mapping::local_count(m, processor) {
+        Counted::Elements(n) => HpfCounted {
+            refusal: 0,
+            elements: n as u32,
+        },
+        Counted::Refused(e) => HpfCounted {
+            refusal: e,
+            elements: 0,
+        },
+    }
+}

@@ -1,0 +1,51 @@
+-- The sign of a number, the natural number that it is, and what the machine's answers say of a parameter.
+use Prim.Native.Nat.{ℕ, zero-le, _<_}
+use mathlib.Core.Path.{_≡_, refl, sym, ap, _∙_}
+use mathlib.Core.Bool.{Bool, true, false, not, false≢true}
+use native.Mathlib.Omega.{arith}
+use borrow.Author.Tests.{ltb-true, le-leb, not-true, not-false}
+use lib.Dec.{T, ltb}
+use lib.IntN.{ℤ, pos, negsuc, natAbs}
+use lib.Signed.{ltZ, nonNeg}
+use mir.Syntax.{w64}
+use mir.Val.{SFits}
+use Rattle.numbers.proofs.Signed.{back, read-of}
+use Rattle.model.specs.Ownership.{nat}
+use Rattle.model.specs.Questions.{isBelow}
+use Rattle.model.proofs.QuestionLaws.{below-is}
+
+pub below : (z : ℤ) → ltZ z (pos 0) ≡ true → 0 ≡ nat z
+unfolding nat
+below (pos n) e = omega (arith, ltb-true n 0 e)
+below (negsuc n) e = refl
+
+pub not-below : (z : ℤ) → ltZ z (pos 0) ≡ false → T (nonNeg z)
+not-below (pos n) e = tt
+not-below (negsuc n) e = absurd (false≢true (sym e))
+
+pub kept : (z : ℤ) → ltZ z (pos 0) ≡ false → natAbs z ≡ nat z
+unfolding nat
+kept (pos n) e = refl
+kept (negsuc n) e = absurd (false≢true (sym e))
+
+-- a negative number is below nothing that is counted from 0, and any other is compared as it is
+pub negative-outside : (z : ℤ) (n : ℕ) → ltZ z (pos 0) ≡ true → false ≡ isBelow (pos n) z
+negative-outside (pos c) n e = absurd (omega (arith, ltb-true c 0 e))
+negative-outside (negsuc c) n e = refl
+
+pub natural-inside : (z : ℤ) (n : ℕ) → ltZ z (pos 0) ≡ false → ltb (natAbs z) n ≡ isBelow (pos n) z
+natural-inside (pos c) n e = rw (le-leb 0 c zero-le)
+natural-inside (negsuc c) n e = absurd (false≢true (sym e))
+
+-- an answer about a parameter, from what the call ensures and the branch that was taken
+module _ {f : Bool} (test : ℤ → Bool) (z : ℤ) (fits : SFits w64 z) (e : f ≡ test (back w64 z)) where
+  pub said-no : not f ≡ true → test z ≡ false
+  said-no t = sym (read-of w64 test z fits e) ∙ not-true f t
+
+  pub said-yes : not f ≡ false → test z ≡ true
+  said-yes t = sym (read-of w64 test z fits e) ∙ not-false f t
+
+-- what `natural` gives of a number that is below n is below n
+pub below-natural : (z : ℤ) (n : ℕ) {r : ℕ} → SFits w64 z → r ≡ nat (back w64 z) → isBelow (pos n) z ≡ true → r < n
+unfolding nat
+below-natural z n fits e h = omega (arith, read-of w64 nat z fits e, below-is z (pos n) h .below)

@@ -1,0 +1,53 @@
+-- `going_back` meets its contract.
+use mathlib.Core.Path.{_≡_, sym, ap, subst, _∙_}
+use borrow.Author.Needs.{needs}
+use mir.Syntax.{w64}
+use mir.ValLaws.{toZ-ofZ}
+use Rattle.mapping.specs.Answers.{Sound, refusalIn, notFound, goingBackIn}
+use Rattle.mapping.proofs.CallLaws.{going-back-refused, going-back-by}
+use Rattle.mapping.proofs.going_back.Statement.{statement}
+use Rattle.mapping.proofs.going_back.Tie as tie
+
+ask-mapping-requires : tie.Need-ask-mapping-requires
+ask-mapping-requires c κs = search needs
+
+enum-known-asked : tie.Need-enum-known-asked
+enum-known-asked c = search needs
+
+enum-told : tie.Need-enum-told
+enum-told c = search needs
+
+refusal-of-requires : tie.Need-refusal-of-requires
+refusal-of-requires c κs = search needs
+
+returns : tie.Need-returns
+returns c =
+    let told = c .before .enum-told .given in
+    let asked = c .before .before .before in
+    let s = asked .before in
+    ap notFound (c .refusal-of .ensures ∙ ap refusalIn (told .1))
+    ∙ going-back-refused (s .args .m) _ (sym (asked .ask-mapping .ensures .0) ∙ told .1) (s .args .processor) (s .args .address)
+
+found-in-requires : tie.Need-found-in-requires
+found-in-requires c κs = subst Sound (c .before .asked .given .1) (c .before .before .before .ask-mapping .ensures .1)
+
+returns-2 : tie.Need-returns-2
+returns-2 c =
+    let known = c .before .before .asked .given in
+    let asked = c .before .before .before .before in
+    let s = asked .before in
+    c .found-in .ensures
+    ∙ (λ i. goingBackIn (known .0 .0) (toZ-ofZ w64 (s .args .processor) (s .fits .processor) i) (toZ-ofZ w64 (s .args .address) (s .fits .address) i))
+    ∙ going-back-by (s .args .m) _ (sym (asked .ask-mapping .ensures .0) ∙ known .1) (s .args .processor) (s .args .address)
+
+pub going-back-spec : {M : Type 1} → statement M
+going-back-spec =
+    tie.close
+    (tie.spec
+    ask-mapping-requires
+    enum-known-asked
+    enum-told
+    refusal-of-requires
+    returns
+    found-in-requires
+    returns-2)

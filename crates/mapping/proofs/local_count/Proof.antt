@@ -1,0 +1,53 @@
+-- `local_count` meets its contract.
+use mathlib.Core.Path.{_≡_, sym, ap, subst, _∙_}
+use borrow.Author.Needs.{needs}
+use mir.Syntax.{w64}
+use mir.ValLaws.{toZ-ofZ}
+use Rattle.mapping.specs.Answers.{Sound, refusalIn, notCounted, localCountIn}
+use Rattle.mapping.proofs.CallLaws.{local-count-refused, local-count-by}
+use Rattle.mapping.proofs.local_count.Statement.{statement}
+use Rattle.mapping.proofs.local_count.Tie as tie
+
+ask-mapping-requires : tie.Need-ask-mapping-requires
+ask-mapping-requires c κs = search needs
+
+enum-known-asked : tie.Need-enum-known-asked
+enum-known-asked c = search needs
+
+enum-told : tie.Need-enum-told
+enum-told c = search needs
+
+refusal-of-requires : tie.Need-refusal-of-requires
+refusal-of-requires c κs = search needs
+
+returns : tie.Need-returns
+returns c =
+    let told = c .before .enum-told .given in
+    let asked = c .before .before .before in
+    let s = asked .before in
+    ap notCounted (c .refusal-of .ensures ∙ ap refusalIn (told .1))
+    ∙ local-count-refused (s .args .m) _ (sym (asked .ask-mapping .ensures .0) ∙ told .1) (s .args .processor)
+
+counted-in-requires : tie.Need-counted-in-requires
+counted-in-requires c κs = subst Sound (c .before .asked .given .1) (c .before .before .before .ask-mapping .ensures .1)
+
+returns-2 : tie.Need-returns-2
+returns-2 c =
+    let known = c .before .before .asked .given in
+    let asked = c .before .before .before .before in
+    let s = asked .before in
+    c .counted-in .ensures
+    ∙ (λ i. localCountIn (known .0 .0) (toZ-ofZ w64 (s .args .processor) (s .fits .processor) i))
+    ∙ local-count-by (s .args .m) _ (sym (asked .ask-mapping .ensures .0) ∙ known .1) (s .args .processor)
+
+pub local-count-spec : {M : Type 1} → statement M
+local-count-spec =
+    tie.close
+    (tie.spec
+    ask-mapping-requires
+    enum-known-asked
+    enum-told
+    refusal-of-requires
+    returns
+    counted-in-requires
+    returns-2)

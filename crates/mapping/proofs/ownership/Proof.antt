@@ -1,0 +1,53 @@
+-- `ownership` meets its contract.
+use mathlib.Core.Path.{_≡_, sym, ap, subst, _∙_}
+use borrow.Author.Needs.{needs}
+use mir.Syntax.{w64}
+use mir.ValLaws.{toZ-ofZ}
+use Rattle.mapping.specs.Answers.{Sound, refusalIn, noOwner, ownershipIn}
+use Rattle.mapping.proofs.CallLaws.{ownership-refused, ownership-by}
+use Rattle.mapping.proofs.ownership.Statement.{statement}
+use Rattle.mapping.proofs.ownership.Tie as tie
+
+ask-mapping-requires : tie.Need-ask-mapping-requires
+ask-mapping-requires c κs = search needs
+
+enum-known-asked : tie.Need-enum-known-asked
+enum-known-asked c = search needs
+
+enum-told : tie.Need-enum-told
+enum-told c = search needs
+
+refusal-of-requires : tie.Need-refusal-of-requires
+refusal-of-requires c κs = search needs
+
+returns : tie.Need-returns
+returns c =
+    let told = c .before .enum-told .given in
+    let asked = c .before .before .before in
+    let s = asked .before in
+    ap noOwner (c .refusal-of .ensures ∙ ap refusalIn (told .1))
+    ∙ ownership-refused (s .args .m) _ (sym (asked .ask-mapping .ensures .0) ∙ told .1) (s .args .index)
+
+owned-in-requires : tie.Need-owned-in-requires
+owned-in-requires c κs = subst Sound (c .before .asked .given .1) (c .before .before .before .ask-mapping .ensures .1)
+
+returns-2 : tie.Need-returns-2
+returns-2 c =
+    let known = c .before .before .asked .given in
+    let asked = c .before .before .before .before in
+    let s = asked .before in
+    c .owned-in .ensures
+    ∙ (λ i. ownershipIn (known .0 .0) (toZ-ofZ w64 (s .args .index) (s .fits .index) i))
+    ∙ ownership-by (s .args .m) _ (sym (asked .ask-mapping .ensures .0) ∙ known .1) (s .args .index)
+
+pub ownership-spec : {M : Type 1} → statement M
+ownership-spec =
+    tie.close
+    (tie.spec
+    ask-mapping-requires
+    enum-known-asked
+    enum-told
+    refusal-of-requires
+    returns
+    owned-in-requires
+    returns-2)

@@ -1,0 +1,131 @@
+-- `dealing_refusal` meets its contract: each return rewrites by the answers on the way to it.
+use mathlib.Core.Path.{_≡_}
+use mathlib.Core.Bool.{true}
+use borrow.Author.Needs.{needs}
+use lib.IntN.{pos}
+use Rattle.model.specs.Questions.{between, most, firstNo}
+use Rattle.mapping.proofs.Signs.{said-no, said-yes}
+use Rattle.mapping.proofs.questions.dealing_refusal.Statement.{statement}
+use Rattle.mapping.proofs.questions.dealing_refusal.Tie as tie
+
+within-requires : tie.Need-within-requires
+within-requires c κs = search needs
+
+returns : tie.Need-returns
+unfolding firstNo
+returns c =
+    let s = c .before .before in
+    rw (said-no (between (pos 1) most) (s .args .t) (s .fits .t) (c .before .within .ensures) (c .if1 .taken))
+
+cells-hold : (c : tie.Else1) → between (pos 1) most (c .before .before .args .t) ≡ true
+cells-hold c =
+    let s = c .before .before in said-yes (between (pos 1) most) (s .args .t) (s .fits .t) (c .before .within .ensures) (c .if1 .left)
+
+within-requires-2 : tie.Need-within-requires-2
+within-requires-2 c κs = search needs
+
+returns-2 : tie.Need-returns-2
+unfolding firstNo
+returns-2 c =
+    let e1 = c .before .before in
+    let s = e1 .before .before in
+    rw (cells-hold e1, said-no (between (pos 1) (pos 1024)) (s .args .p) (s .fits .p) (c .before .within2 .ensures) (c .if2 .taken))
+
+processors-hold : (c : tie.Else2) → between (pos 1) (pos 1024) (c .before .before .before .before .args .p) ≡ true
+processors-hold c =
+    let s = c .before .before .before .before in
+    said-yes (between (pos 1) (pos 1024)) (s .args .p) (s .fits .p) (c .before .within2 .ensures) (c .if2 .left)
+
+within-requires-3 : tie.Need-within-requires-3
+within-requires-3 c κs = search needs
+
+returns-3 : tie.Need-returns-3
+unfolding firstNo
+returns-3 c =
+    let e2 = c .before .before in
+    let e1 = e2 .before .before in
+    let s = e1 .before .before in
+    rw (
+      cells-hold e1,
+      processors-hold e2,
+      said-no (between (pos 1) (pos 65536)) (s .args .k) (s .fits .k) (c .before .within3 .ensures) (c .if3 .taken),
+    )
+
+block-holds : (c : tie.Else3) → between (pos 1) (pos 65536) (c .before .before .before .before .before .before .args .k) ≡ true
+block-holds c =
+    let s = c .before .before .before .before .before .before in
+    said-yes (between (pos 1) (pos 65536)) (s .args .k) (s .fits .k) (c .before .within3 .ensures) (c .if3 .left)
+
+within-requires-4 : tie.Need-within-requires-4
+within-requires-4 c κs = search needs
+
+returns-4 : tie.Need-returns-4
+unfolding firstNo
+returns-4 c =
+    let e3 = c .before .before in
+    let e2 = e3 .before .before in
+    let e1 = e2 .before .before in
+    let s = e1 .before .before in
+    rw (
+      cells-hold e1,
+      processors-hold e2,
+      block-holds e3,
+      said-no (between (pos 1) most) (s .args .a) (s .fits .a) (c .before .within4 .ensures) (c .if4 .taken),
+    )
+
+stride-holds : (c : tie.Else4)
+    → between (pos 1) most (c .before .before .before .before .before .before .before .before .args .a) ≡ true
+stride-holds c =
+    let s = c .before .before .before .before .before .before .before .before in
+    said-yes (between (pos 1) most) (s .args .a) (s .fits .a) (c .before .within4 .ensures) (c .if4 .left)
+
+within-requires-5 : tie.Need-within-requires-5
+within-requires-5 c κs = search needs
+
+returns-5 : tie.Need-returns-5
+unfolding firstNo
+returns-5 c =
+    let e4 = c .before .before in
+    let e3 = e4 .before .before in
+    let e2 = e3 .before .before in
+    let e1 = e2 .before .before in
+    let s = e1 .before .before in
+    rw (
+      cells-hold e1,
+      processors-hold e2,
+      block-holds e3,
+      stride-holds e4,
+      said-no (between (pos 0) most) (s .args .b) (s .fits .b) (c .before .within5 .ensures) (c .if5 .taken),
+    )
+
+returns-6 : tie.Need-returns-6
+unfolding firstNo
+returns-6 c =
+    let e4 = c .before .before in
+    let e3 = e4 .before .before in
+    let e2 = e3 .before .before in
+    let e1 = e2 .before .before in
+    let s = e1 .before .before in
+    rw (
+      cells-hold e1,
+      processors-hold e2,
+      block-holds e3,
+      stride-holds e4,
+      said-yes (between (pos 0) most) (s .args .b) (s .fits .b) (c .before .within5 .ensures) (c .if5 .left),
+    )
+
+pub dealing-refusal-spec : {M : Type 1} → statement M
+dealing-refusal-spec =
+    tie.close
+    (tie.spec
+    within-requires
+    returns
+    within-requires-2
+    returns-2
+    within-requires-3
+    returns-3
+    within-requires-4
+    returns-4
+    within-requires-5
+    returns-5
+    returns-6)

@@ -1,0 +1,110 @@
+// Ownership, going back and local counts of an array that is aligned to a template dealt in
+// blocks. The questions about a mapping are put in questions.rt, the arithmetic of an
+// accepted one stands in dealing.rt; here are the calls, which take whatever numbers.
+pub mod dealing;
+pub mod questions;
+
+ghost use mathlib.Core.Path.{_≡_};
+ghost use Rattle.model.specs.Sized.{Sized};
+ghost use Rattle.model.specs.Calls.{ownership, goingBack, localCount};
+ghost use Rattle.mapping.specs.Answers.{ownedAs, foundAs, countedAs, ownershipIn, goingBackIn, localCountIn};
+use model::Address;
+use model::Index;
+use model::Layout;
+use model::Mapping;
+use questions::Mapped;
+
+// Processor and local address of an element, or the refusal.
+pub enum Owned {
+    At { processor: u64, address: Address },
+    Refused(u32),
+}
+
+// Question 9, and the answer of an accepted layout.
+fn owned_in(l: Layout, index: i64) -> Owned
+    requires { ⌜ Sized l ⌝ }
+    ensures { λ r. ⌜ ownedAs r ≡ ownershipIn l index ⌝ }
+{
+    let size = l.size;
+    if !questions::is_below(index, size) {
+        return Owned::Refused(9);
+    }
+    let i = Index(questions::natural(index));
+    Owned::At {
+        processor: dealing::owner_of(l, dealing::cell_of(l, i)),
+        address: dealing::local_address(l, i),
+    }
+}
+
+pub fn ownership(m: Mapping, index: i64) -> Owned
+    ensures { λ r. ⌜ ownedAs r ≡ ownership m index ⌝ }
+{
+    let asked = questions::ask_mapping(m);
+    let Mapped::By(l) = asked else {
+        return Owned::Refused(questions::refusal_of(asked));
+    };
+    owned_in(l, index)
+}
+
+// The element at an address of a processor, or the refusal.
+pub enum Found {
+    At(Index),
+    Refused(u32),
+}
+
+// Questions 8 and 9, and the answer of an accepted layout.
+fn found_in(l: Layout, processor: i64, address: i64) -> Found
+    requires { ⌜ Sized l ⌝ }
+    ensures { λ r. ⌜ foundAs r ≡ goingBackIn l processor address ⌝ }
+{
+    let processors = l.processors;
+    if !questions::is_below(processor, processors) {
+        return Found::Refused(8);
+    }
+    let q = questions::natural(processor);
+    let elements = dealing::held_below(l, q, Index(l.size));
+    if !questions::is_below(address, elements) {
+        return Found::Refused(9);
+    }
+    let x = Address(questions::natural(address));
+    Found::At(dealing::element_at(l, q, x))
+}
+
+pub fn going_back(m: Mapping, processor: i64, address: i64) -> Found
+    ensures { λ r. ⌜ foundAs r ≡ goingBack m processor address ⌝ }
+{
+    let asked = questions::ask_mapping(m);
+    let Mapped::By(l) = asked else {
+        return Found::Refused(questions::refusal_of(asked));
+    };
+    found_in(l, processor, address)
+}
+
+// How many elements a processor holds, or the refusal.
+pub enum Counted {
+    Elements(u64),
+    Refused(u32),
+}
+
+// Question 8, and the answer of an accepted layout.
+fn counted_in(l: Layout, processor: i64) -> Counted
+    requires { ⌜ Sized l ⌝ }
+    ensures { λ r. ⌜ countedAs r ≡ localCountIn l processor ⌝ }
+{
+    let processors = l.processors;
+    if !questions::is_below(processor, processors) {
+        return Counted::Refused(8);
+    }
+    let q = questions::natural(processor);
+    Counted::Elements(dealing::held_below(l, q, Index(l.size)))
+}
+
+pub fn local_count(m: Mapping, processor: i64) -> Counted
+    ensures { λ r. ⌜ countedAs r ≡ localCount m processor ⌝ }
+{
+    let asked = questions::ask_mapping(m);
+    let Mapped::By(l) = asked else {
+        return Counted::Refused(questions::refusal_of(asked));
+    };
+    counted_in(l, processor)
+}

@@ -1,0 +1,166 @@
+//! Numbers at and past every limit, in pairs and in all combinations: several
+//! faults stand together, and the refusal must name the first.
+
+use crate::answers;
+use crate::comparison::{Comparison, Difference, Outcome};
+use crate::library::Mapping;
+
+const LARGEST: i64 = 2_147_483_647;
+
+/// A call, given the six numbers of its mapping and then its own.
+type Call<const N: usize> = fn(&mut Comparison, [i64; N]) -> Outcome;
+
+/// For each number of a mapping its limits, what lies past them, and a number
+/// within: together 96 3 4 5 2 19, in which 20 elements would not fit.
+const MAPPINGS: [&[i64]; 6] = [
+    &[i64::MIN, 0, 1, 96, LARGEST, LARGEST + 1, i64::MAX],
+    &[i64::MIN, 0, 1, 3, 1_024, 1_025, i64::MAX],
+    &[i64::MIN, 0, 1, 4, 65_536, 65_537, i64::MAX],
+    &[i64::MIN, 0, 1, 5, LARGEST, LARGEST + 1, i64::MAX],
+    &[i64::MIN, -1, 0, 2, LARGEST, LARGEST + 1, i64::MAX],
+    &[i64::MIN, -1, 0, 1, 19, 20, LARGEST, LARGEST + 1, i64::MAX],
+];
+const INDICES: &[i64] = &[i64::MIN, -1, 0, 18, 19, LARGEST, i64::MAX];
+const PROCESSORS: &[i64] = &[i64::MIN, -1, 0, 2, 3, 1_023, 1_024, i64::MAX];
+
+/// Fewer for going back, which takes a number more.
+const MAPPINGS_BACK: [&[i64]; 6] = [
+    &[0, 1, 96, LARGEST, LARGEST + 1],
+    &[0, 1, 3, 1_024, 1_025],
+    &[0, 1, 4, 65_536, 65_537],
+    &[0, 1, 5, LARGEST, LARGEST + 1],
+    &[-1, 0, 2, LARGEST, LARGEST + 1],
+    &[-1, 0, 1, 19, 20, LARGEST, LARGEST + 1],
+];
+const PROCESSORS_BACK: &[i64] = &[-1, 0, 2, 3, 1_023, 1_024];
+const ADDRESSES: &[i64] = &[i64::MIN, -1, 0, 5, 6, 7, LARGEST, i64::MAX];
+
+/// Mappings in which two numbers at a time are exchanged for others.
+const LAWFUL: [[i64; 6]; 4] = [
+    [96, 3, 4, 5, 2, 19],
+    [LARGEST, 1_024, 65_536, 1, 0, LARGEST],
+    [LARGEST, 1, 1, 1, LARGEST - 1, 1],
+    [1, 1, 1, LARGEST, 0, 1],
+];
+
+/// The limits of all numbers, and numbers that seem lawful once high bits are lost.
+const EXCHANGES: &[i64] = &[
+    i64::MIN,
+    i64::MIN + 1,
+    -(1 << 32),
+    -(1 << 32) + 1,
+    -LARGEST - 2,
+    -LARGEST - 1,
+    -LARGEST,
+    -65_536,
+    -1,
+    0,
+    1,
+    2,
+    3,
+    5,
+    18,
+    19,
+    1_023,
+    1_024,
+    1_025,
+    65_535,
+    65_536,
+    65_537,
+    LARGEST - 1,
+    LARGEST,
+    LARGEST + 1,
+    (1 << 32) - 1,
+    1 << 32,
+    (1 << 32) + 1,
+    (1 << 32) + 3,
+    (1 << 62) + 1,
+    i64::MAX - 1,
+    i64::MAX,
+];
+
+pub fn compare_combinations(comparison: &mut Comparison) -> Result<String, Difference> {
+    let [t, p, k, a, b, n] = MAPPINGS;
+    combine(comparison, [t, p, k, a, b, n, INDICES], ownership)?;
+    combine(comparison, [t, p, k, a, b, n, PROCESSORS], local_count)?;
+    let [t, p, k, a, b, n] = MAPPINGS_BACK;
+    let back = [t, p, k, a, b, n, PROCESSORS_BACK, ADDRESSES];
+    combine(comparison, back, going_back)?;
+    Ok("numbers at and past their limits, in all combinations".to_string())
+}
+
+pub fn compare_exchanges(comparison: &mut Comparison) -> Result<String, Difference> {
+    for [t, p, k, a, b, n] in LAWFUL {
+        exchange_pairs(comparison, [t, p, k, a, b, n, 0], ownership)?;
+        exchange_pairs(comparison, [t, p, k, a, b, n, 0], local_count)?;
+        exchange_pairs(comparison, [t, p, k, a, b, n, 0, 0], going_back)?;
+    }
+    Ok("numbers far and near, any two at a time".to_string())
+}
+
+/// Makes the call with each choice of one value for each number.
+fn combine<const N: usize>(
+    comparison: &mut Comparison,
+    values: [&[i64]; N],
+    call: Call<N>,
+) -> Outcome {
+    let combinations: usize = values.iter().map(|choices| choices.len()).product();
+    for combination in 0..combinations {
+        let mut rest = combination;
+        let numbers = values.map(|choices| {
+            let choice = rest % choices.len();
+            rest /= choices.len();
+            choices[choice]
+        });
+        call(comparison, numbers)?;
+    }
+    Ok(())
+}
+
+/// Makes the call with each pair of its numbers exchanged, for each pair of values.
+fn exchange_pairs<const N: usize>(
+    comparison: &mut Comparison,
+    lawful: [i64; N],
+    call: Call<N>,
+) -> Outcome {
+    for first in 0..N {
+        for second in first + 1..N {
+            let mut choices = lawful.each_ref().map(std::slice::from_ref);
+            choices[first] = EXCHANGES;
+            choices[second] = EXCHANGES;
+            combine(comparison, choices, call)?;
+        }
+    }
+    Ok(())
+}
+
+fn ownership(comparison: &mut Comparison, numbers: [i64; 7]) -> Outcome {
+    let [t, p, k, a, b, n, index] = numbers;
+    let m = mapping([t, p, k, a, b, n]);
+    comparison.ownership(&m, index, answers::ownership(&m, index))
+}
+
+fn local_count(comparison: &mut Comparison, numbers: [i64; 7]) -> Outcome {
+    let [t, p, k, a, b, n, processor] = numbers;
+    let m = mapping([t, p, k, a, b, n]);
+    comparison.local_count(&m, processor, answers::local_count(&m, processor))
+}
+
+fn going_back(comparison: &mut Comparison, numbers: [i64; 8]) -> Outcome {
+    let [t, p, k, a, b, n, processor, address] = numbers;
+    let m = mapping([t, p, k, a, b, n]);
+    let expected = answers::going_back(&m, processor, address);
+    comparison.going_back(&m, processor, address, expected)
+}
+
+fn mapping(numbers: [i64; 6]) -> Mapping {
+    let [cells, processors, block, stride, offset, size] = numbers;
+    Mapping {
+        cells,
+        processors,
+        block,
+        stride,
+        offset,
+        size,
+    }
+}

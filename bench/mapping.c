@@ -1,11 +1,11 @@
 /* Nanoseconds per call of ownership, going back and local count, best of several runs. */
 #include <stdint.h>
 #include <stdio.h>
-#include <time.h>
 
 #include "hpfaddr.h"
+#include "timing.h"
 
-enum { CALLS = 200000, RUNS = 7 };
+enum { CALLS = 200000 };
 
 typedef struct {
     const char *name;
@@ -21,47 +21,29 @@ static const mapping mappings[] = {
 
 static volatile int64_t sink;
 
-static double now(void)
-{
-    struct timespec t;
-    clock_gettime(CLOCK_PROCESS_CPUTIME_ID, &t);
-    return (double)t.tv_sec * 1e9 + (double)t.tv_nsec;
-}
-
 /* the element of call j, spread over the array */
 static int64_t element(const mapping *m, int64_t j)
 {
     return j * INT64_C(7919) * INT64_C(104729) % m->size;
 }
 
-static void call_ownership(const mapping *m, int64_t j)
+static void call_ownership(const void *context, int64_t j)
 {
+    const mapping *m = context;
     sink = hpf_ownership(m->cells, m->processors, m->block, m->stride, m->offset, m->size, element(m, j)).address;
 }
 
-static void call_going_back(const mapping *m, int64_t j)
+static void call_going_back(const void *context, int64_t j)
 {
+    const mapping *m = context;
     int64_t address = element(m, j) / m->processors;
     sink = hpf_going_back(m->cells, m->processors, m->block, m->stride, m->offset, m->size, 0, address / 2).index;
 }
 
-static void call_local_count(const mapping *m, int64_t j)
+static void call_local_count(const void *context, int64_t j)
 {
+    const mapping *m = context;
     sink = hpf_local_count(m->cells, m->processors, m->block, m->stride, m->offset, m->size, j % m->processors).elements;
-}
-
-static double best(const mapping *m, void (*call)(const mapping *, int64_t))
-{
-    double least = 1e18;
-    for (int run = 0; run < RUNS; run++) {
-        double start = now();
-        for (int64_t j = 0; j < CALLS; j++)
-            call(m, j);
-        double each = (now() - start) / CALLS;
-        if (each < least)
-            least = each;
-    }
-    return least;
 }
 
 int main(void)
@@ -69,7 +51,8 @@ int main(void)
     printf("%-22s %12s %12s %12s\n", "ns per call", "ownership", "going back", "local count");
     for (size_t i = 0; i < sizeof mappings / sizeof mappings[0]; i++) {
         const mapping *m = &mappings[i];
-        printf("%-22s %12.0f %12.0f %12.0f\n", m->name, best(m, call_ownership), best(m, call_going_back), best(m, call_local_count));
+        printf("%-22s %12.0f %12.0f %12.0f\n", m->name, best_of_batches(m, call_ownership, CALLS),
+               best_of_batches(m, call_going_back, CALLS), best_of_batches(m, call_local_count, CALLS));
     }
     return 0;
 }

@@ -1,5 +1,6 @@
 /*
- * hpfaddr.h: owners and local addresses of one-dimensional block-cyclic arrays.
+ * hpfaddr.h: owners, local addresses and sections of one-dimensional
+ * block-cyclic arrays.
  *
  * A template is a row of cells, dealt to processors in blocks, as CYCLIC(k) of
  * HPF 2.0 says. An array is aligned to the template. A mapping is six numbers:
@@ -14,21 +15,56 @@
  * Element i sits on cell a*i + b, and the last element's cell must be below T.
  * An array of no elements has no such duty.
  *
- * Cells, elements, processors and addresses count from 0. The owner of cell c
- * is processor (c / k) mod p. The local address of an element is the number of
- * elements with a lower index and the same owner: each processor's addresses
- * run from 0 to one below its number of elements, without a gap.
+ * Cells, elements, processors, addresses and positions count from 0. The owner
+ * of cell c is processor (c / k) mod p; its course is c / pk and its column is
+ * c mod k. The local address of an element is the number of elements with a
+ * lower index and the same owner: each processor's addresses run from 0 to one
+ * below its number of elements, without a gap.
+ *
+ * A section l:h:s of the array is three more numbers, each from -2147483647 to
+ * 2147483647:
+ *
+ *   lower       l  the element at position 0
+ *   upper       h  no element lies past it; it need not be one itself
+ *   step        s  elements from position to position; negative goes down; not 0
+ *
+ * It has max(0, (h - l + s) / s) elements, the quotient truncated as in C: its
+ * count. Position t holds element l + t*s. If the section has elements, its
+ * first and its last must be elements of the array. An empty one has no such
+ * duty.
+ *
+ * A processor's list is made of the section's elements that it owns, in rising
+ * position. A place is the position of one of them, or the count at the end.
+ * To fill the whole list, go on from the first place until the count:
+ *
+ *   int64_t count = hpf_section_steps(..., lower, upper, step).count;
+ *   int64_t place = hpf_first_place(..., lower, upper, step, processor).place;
+ *   while (place != count) {
+ *       hpf_filled filled = hpf_fill(..., lower, upper, step, processor, place,
+ *                                    HPF_LARGEST_QUOTA, list, list_bytes);
+ *       use the filled.entries addresses that now begin the list;
+ *       place = filled.place;
+ *   }
+ *
+ * Look at each refusal first: the place 0 of a refused call is no place. The
+ * list needs room for one address or more, or the loop does not end.
  *
  * What is guaranteed:
  * - Every call returns, whatever numbers it is given.
- * - Each field of each answer, refusals too, is proved to equal its definition.
+ * - Each field of each answer and each byte of a lent list afterwards, refusals
+ *   too, is proved to equal its definition.
  * - Ownership and going back undo each other.
- * - The calls keep no state and touch no memory of the caller's, so any number
- *   of threads may call them at once.
+ * - Fills one after another, from the first place on, give each element of the
+ *   processor's list once and in order, whatever their quotas and lists, also
+ *   with refused fills between them.
+ * - The calls keep no state. A fill writes the list that it is lent, and no call
+ *   touches any other memory of the caller's, so any number of threads may call
+ *   them at once; two fills at once need two lists.
  */
 #ifndef HPFADDR_H
 #define HPFADDR_H
 
+#include <stddef.h>
 #include <stdint.h>
 
 #ifdef __cplusplus
@@ -38,7 +74,8 @@ extern "C" {
 /*
  * The field refusal of an answer. A call asks these questions in rising order,
  * those that concern its arguments, and stops at the first one answered no.
- * The refusal is the number of that question, and every other field is 0.
+ * The refusal is the number of that question, every other field is 0, and a lent
+ * list is left as it was.
  */
 enum {
     HPF_ACCEPTED = 0,
@@ -47,8 +84,18 @@ enum {
     HPF_REFUSED_BLOCK = 3,            /* is block in its range? */
     HPF_REFUSED_ALIGNMENT = 4,        /* are stride and offset in their ranges? */
     HPF_REFUSED_SIZE = 5,             /* is size in its range, and the last element's cell below cells? */
+    HPF_REFUSED_TRIPLET = 6,          /* are lower, upper and step in their ranges, and is step not 0? */
+    HPF_REFUSED_SECTION = 7,          /* are the section's first and last elements, if any, from 0 to size - 1? */
     HPF_REFUSED_PROCESSOR_NUMBER = 8, /* is the processor from 0 to processors - 1? */
-    HPF_REFUSED_ELEMENT = 9           /* is there an element of this index, or at this address? */
+    HPF_REFUSED_ELEMENT = 9,          /* is there an element of this index, or at this address? */
+    HPF_REFUSED_PLACE = 10,           /* is the place the count, or a position whose element the processor owns? */
+    HPF_REFUSED_QUOTA = 11            /* is the quota in its range? */
+};
+
+/* The quotas of a fill. A fill goes on only while it has the least of them left. */
+enum {
+    HPF_LEAST_QUOTA = 3,
+    HPF_LARGEST_QUOTA = 1000000
 };
 
 /* Where an element is: its owner and its local address there. */
@@ -70,6 +117,46 @@ typedef struct hpf_counted {
     int32_t elements; /* 0 to size */
 } hpf_counted;
 
+/*
+ * How many elements a section has, and the steps from one of a processor's
+ * elements to the next. With S = a*|s| and pk cells in a course:
+ * - Two steps, if gcd(S, pk) is below k. The processor step is the smallest
+ *   positive multiple of S that moves the column up by 1 to k - 1 and stays with
+ *   the processor, the return step the smallest that moves it down so. The next
+ *   element is a processor step away if the column has room for it, else a
+ *   return step if that has, else the sum of both: 1, 2 or 3 tries. A section
+ *   that goes down takes its steps downwards, and they move the column the other
+ *   way.
+ * - One step, if gcd(S, pk) is k or more. It keeps the column, and costs 1 try.
+ * - No step, if the section has one element, which costs 1 try, or none.
+ * The fields of steps that there are not are 0.
+ */
+typedef struct hpf_steps {
+    int64_t refusal;        /* 0, or 1 to 7 */
+    int64_t count;          /* elements of the section, 0 to size */
+    int64_t steps;          /* 0, 1 or 2 */
+    int64_t cells;          /* processor step, or the one step: a multiple of S */
+    int64_t courses;        /* 0 or more */
+    int64_t column;         /* 1 to k - 1, or 0 for the one step */
+    int64_t return_cells;   /* return step: a multiple of S */
+    int64_t return_courses; /* 1 or more; cells are courses*pk + column, here too */
+    int64_t return_column;  /* -1 to -(k - 1) */
+} hpf_steps;
+
+/* Where a processor's list begins. */
+typedef struct hpf_placed {
+    int32_t refusal; /* 0, or 1 to 8 */
+    int32_t place;   /* the lowest position whose element it owns, or the count if none */
+} hpf_placed;
+
+/* What a fill did. */
+typedef struct hpf_filled {
+    int32_t refusal; /* 0, or 1 to 8, or 10, or 11 */
+    int32_t entries; /* addresses written, from the list's start on */
+    int32_t tries;   /* paid for them, 0 to the quota */
+    int32_t place;   /* where the next fill goes on, or the count at the end */
+} hpf_filled;
+
 /* The owner and the local address of the element with this index, 0 to size - 1. */
 hpf_owned hpf_ownership(int64_t cells, int64_t processors, int64_t block,
                         int64_t stride, int64_t offset, int64_t size,
@@ -87,6 +174,36 @@ hpf_found hpf_going_back(int64_t cells, int64_t processors, int64_t block,
 hpf_counted hpf_local_count(int64_t cells, int64_t processors, int64_t block,
                             int64_t stride, int64_t offset, int64_t size,
                             int64_t processor);
+
+/* The count and the steps of a section. */
+hpf_steps hpf_section_steps(int64_t cells, int64_t processors, int64_t block,
+                            int64_t stride, int64_t offset, int64_t size,
+                            int64_t lower, int64_t upper, int64_t step);
+
+/* The place at which the list of a processor, 0 to processors - 1, begins. */
+hpf_placed hpf_first_place(int64_t cells, int64_t processors, int64_t block,
+                           int64_t stride, int64_t offset, int64_t size,
+                           int64_t lower, int64_t upper, int64_t step,
+                           int64_t processor);
+
+/*
+ * Writes the addresses of a processor's list, from a place on, into the list
+ * that it is lent, and pays the tries of going on from each, also from the last.
+ * It goes on while the place is not the count, the list has an unused entry, and
+ * 3 tries or more are left of the quota, 3 to 1000000.
+ *
+ * The list is list_bytes bytes, 4 to an address, the lowest byte first; on a
+ * machine that stores integers so, it may be an array of int32_t. It may start
+ * at any address. Bytes after the entries written stay, and so do up to 3 bytes
+ * at the end that are too few for an address. No other thread may use the list
+ * meanwhile. The list may be NULL only if list_bytes is 0; then, and if the place
+ * is the count, nothing is written and the place stays.
+ */
+hpf_filled hpf_fill(int64_t cells, int64_t processors, int64_t block,
+                    int64_t stride, int64_t offset, int64_t size,
+                    int64_t lower, int64_t upper, int64_t step,
+                    int64_t processor, int64_t place, int64_t quota,
+                    uint8_t *list, size_t list_bytes);
 
 #ifdef __cplusplus
 }

@@ -89,7 +89,8 @@ fn cost(array: &Array, way: Way) -> u64 {
     }
 }
 
-fn course(array: &Array) -> u64 {
+/// The cells of a course, pk.
+pub fn course(array: &Array) -> u64 {
     array.processors * array.block
 }
 

@@ -12,6 +12,21 @@ pub struct Mapping {
     pub size: i64,
 }
 
+impl Mapping {
+    /// The numbers in the order of the calls' arguments.
+    pub fn of(numbers: [i64; 6]) -> Mapping {
+        let [cells, processors, block, stride, offset, size] = numbers;
+        Mapping {
+            cells,
+            processors,
+            block,
+            stride,
+            offset,
+            size,
+        }
+    }
+}
+
 #[repr(C)]
 #[derive(Clone, Copy, Debug, PartialEq, Eq)]
 pub struct Owned {

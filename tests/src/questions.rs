@@ -3,6 +3,7 @@
 //! answered no, or 0 if all are answered yes.
 
 use crate::library::Mapping;
+use crate::section_library::{Fill, Triplet};
 
 const LARGEST: i128 = 2_147_483_647;
 
@@ -26,6 +27,22 @@ pub fn of_mapping(m: &Mapping) -> i32 {
     ])
 }
 
+/// Questions 6 and 7.
+fn of_section(m: &Mapping, triplet: &Triplet) -> i32 {
+    let [lower, upper, step] = [triplet.lower, triplet.upper, triplet.step].map(i128::from);
+    let is_in_range = |number: i128| (-LARGEST..=LARGEST).contains(&number);
+    if ![lower, upper, step].into_iter().all(is_in_range) || step == 0 {
+        return 6;
+    }
+    let count = (upper - lower + step) / step;
+    let last = lower + (count - 1) * step;
+    let elements = 0..i128::from(m.size);
+    first_no(&[(
+        7,
+        count < 1 || elements.contains(&lower) && elements.contains(&last),
+    )])
+}
+
 /// Question 8.
 pub fn of_processor(m: &Mapping, processor: i64) -> i32 {
     first_no(&[(8, (0..m.processors).contains(&processor))])
@@ -35,6 +52,53 @@ pub fn of_processor(m: &Mapping, processor: i64) -> i32 {
 /// that the processor holds.
 pub fn of_element(elements: i64, number: i64) -> i32 {
     first_no(&[(9, (0..elements).contains(&number))])
+}
+
+/// Question 10, of a section and a processor that pass the questions before it.
+fn of_place(fill: &Fill) -> i32 {
+    let [lower, upper, step, place] = [
+        fill.triplet.lower,
+        fill.triplet.upper,
+        fill.triplet.step,
+        fill.place,
+    ]
+    .map(i128::from);
+    let count = ((upper - lower + step) / step).max(0);
+    let owner = || fill.m.array().owner((lower + place * step) as u64);
+    let is_owned = || (0..count).contains(&place) && owner() == fill.processor as u64;
+    first_no(&[(10, place == count || is_owned())])
+}
+
+/// Question 11.
+fn of_quota(quota: i64) -> i32 {
+    first_no(&[(11, (3..=1_000_000).contains(&quota))])
+}
+
+/// Questions 1 to 7.
+pub fn of_mapping_and_section(m: &Mapping, triplet: &Triplet) -> i32 {
+    match of_mapping(m) {
+        0 => of_section(m, triplet),
+        refusal => refusal,
+    }
+}
+
+/// Questions 1 to 8.
+pub fn of_list(m: &Mapping, triplet: &Triplet, processor: i64) -> i32 {
+    match of_mapping_and_section(m, triplet) {
+        0 => of_processor(m, processor),
+        refusal => refusal,
+    }
+}
+
+/// Questions 1 to 8, 10 and 11.
+pub fn of_fill(fill: &Fill) -> i32 {
+    match of_list(&fill.m, &fill.triplet, fill.processor) {
+        0 => match of_place(fill) {
+            0 => of_quota(fill.quota),
+            refusal => refusal,
+        },
+        refusal => refusal,
+    }
 }
 
 fn first_no(answers: &[(i32, bool)]) -> i32 {

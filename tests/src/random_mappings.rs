@@ -45,7 +45,7 @@ pub fn compare_fits(comparison: &mut Comparison) -> Result<String, Difference> {
 
 /// A mapping of one element or more. Each number is now small, now anywhere in
 /// its range, and now near the end of it.
-fn random_mapping(generator: &mut Generator) -> Mapping {
+pub fn random_mapping(generator: &mut Generator) -> Mapping {
     let cells = generator.up_to(LARGEST);
     let processors = generator.up_to(MOST_PROCESSORS);
     let block = generator.up_to(LARGEST_BLOCK);

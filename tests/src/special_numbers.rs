@@ -8,7 +8,7 @@ use crate::library::Mapping;
 const LARGEST: i64 = 2_147_483_647;
 
 /// A call, given the six numbers of its mapping and then its own.
-type Call<const N: usize> = fn(&mut Comparison, [i64; N]) -> Outcome;
+pub type Call<const N: usize> = fn(&mut Comparison, [i64; N]) -> Outcome;
 
 /// For each number of a mapping its limits, what lies past them, and a number
 /// within: together 96 3 4 5 2 19, in which 20 elements would not fit.
@@ -99,7 +99,7 @@ pub fn compare_exchanges(comparison: &mut Comparison) -> Result<String, Differen
 }
 
 /// Makes the call with each choice of one value for each number.
-fn combine<const N: usize>(
+pub fn combine<const N: usize>(
     comparison: &mut Comparison,
     values: [&[i64]; N],
     call: Call<N>,
@@ -118,7 +118,7 @@ fn combine<const N: usize>(
 }
 
 /// Makes the call with each pair of its numbers exchanged, for each pair of values.
-fn exchange_pairs<const N: usize>(
+pub fn exchange_pairs<const N: usize>(
     comparison: &mut Comparison,
     lawful: [i64; N],
     call: Call<N>,
@@ -136,31 +136,19 @@ fn exchange_pairs<const N: usize>(
 
 fn ownership(comparison: &mut Comparison, numbers: [i64; 7]) -> Outcome {
     let [t, p, k, a, b, n, index] = numbers;
-    let m = mapping([t, p, k, a, b, n]);
+    let m = Mapping::of([t, p, k, a, b, n]);
     comparison.ownership(&m, index, answers::ownership(&m, index))
 }
 
 fn local_count(comparison: &mut Comparison, numbers: [i64; 7]) -> Outcome {
     let [t, p, k, a, b, n, processor] = numbers;
-    let m = mapping([t, p, k, a, b, n]);
+    let m = Mapping::of([t, p, k, a, b, n]);
     comparison.local_count(&m, processor, answers::local_count(&m, processor))
 }
 
 fn going_back(comparison: &mut Comparison, numbers: [i64; 8]) -> Outcome {
     let [t, p, k, a, b, n, processor, address] = numbers;
-    let m = mapping([t, p, k, a, b, n]);
+    let m = Mapping::of([t, p, k, a, b, n]);
     let expected = answers::going_back(&m, processor, address);
     comparison.going_back(&m, processor, address, expected)
-}
-
-fn mapping(numbers: [i64; 6]) -> Mapping {
-    let [cells, processors, block, stride, offset, size] = numbers;
-    Mapping {
-        cells,
-        processors,
-        block,
-        stride,
-        offset,
-        size,
-    }
 }

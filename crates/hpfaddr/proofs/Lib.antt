@@ -1,2 +1,3 @@
 -- Laws that the proofs of the C functions share.
-pub mod Parameters
+pub mod AnswerSizes
+pub mod ParameterLaws

@@ -1,6 +1,7 @@
 // The C functions of the library, for a Fortran runtime to link: numbers in, a struct of
 // numbers out by value, its first field the refusal. Each hands its numbers to the call of
-// the same name; include/hpfaddr.h and fortran/hpfaddr.f90 declare them.
+// the same name; include/hpfaddr.h and fortran/hpfaddr.f90 declare them. Here stand those
+// of a mapping, in sections.rt those of sections and fills.
 ghost use mathlib.Core.Path.{_≡_};
 ghost use Rattle.model.specs.Calls.{ownership, goingBack, localCount};
 ghost use Rattle.mapping.specs.Answers.{mappingOf};
@@ -8,27 +9,10 @@ ghost use Rattle.hpfaddr.specs.Fields.{ownedFields, foundFields, counted
 use mapping::Counted;
 use mapping::Found;
 use mapping::Owned;
-use model::Mapping;
+use parameters::mapping_of;
 
-fn mapping_of(
-    cells: i64,
-    processors: i64,
-    block: i64,
-    stride: i64,
-    offset: i64,
-    size: i64,
-) -> Mapping
-    ensures { λ r. ⌜ r ≡ mappingOf cells processors block stride offset size ⌝ }
-{
-    Mapping {
-        cells,
-        processors,
-        block,
-        stride,
-        offset,
-        size,
-    }
-}
+pub mod parameters;
+pub mod sections;
 
 #[repr(C)]
 pub struct HpfOwned {

@@ -32,7 +32,7 @@ unfolding cellOwner
 cell-owner-lt m h c = mod-lt (c / m .block) h
 
 module _ (m : Layout) (p-pos : 0 < m .processors) (k-pos : 0 < m .block) where
-  course-pos : 0 < courseCells m
+  pub course-pos : 0 < courseCells m
   unfolding courseCells
   course-pos = mul-pos p-pos k-pos
 
@@ -41,7 +41,7 @@ module _ (m : Layout) (p-pos : 0 < m .processors) (k-pos : 0 < m .block) where
   block-le = omega (arith, mul-le-mul-right (m .block) p-pos)
 
   -- the owner is the block of the cell's rest by a course
-  owner-rest : (c : ℕ) → cellOwner m c ≡ c % courseCells m / m .block
+  pub owner-rest : (c : ℕ) → cellOwner m c ≡ c % courseCells m / m .block
   unfolding cellOwner courseCells
   owner-rest c =
       let p = m .processors in
@@ -57,7 +57,7 @@ module _ (m : Layout) (p-pos : 0 < m .processors) (k-pos : 0 < m .block) where
   column-lt c = mod-lt c k-pos
 
   -- a cell's rest by a course, from its owner and its column
-  split : (c : ℕ) → c % courseCells m ≡ cellOwner m c * m .block + columnOf m c
+  pub split : (c : ℕ) → c % courseCells m ≡ cellOwner m c * m .block + columnOf m c
   unfolding columnOf courseCells
   split c =
       let y : c % courseCells m % m .block ≡ c % m .block = mod-mod-of-dvd (m .block) c (dvd-mul-left (m .block) (m .processors)) in

@@ -1,12 +1,12 @@
 -- Counting a processor's elements, for any owner of indices: one element more, and where a count leads back. Assumes nothing.
-use Prim.Native.Nat.{ℕ, zero, suc, _+_, _≤_, _<_}
+use Prim.Native.Nat.{ℕ, suc, _+_, _≤_, _<_}
 use mathlib.Core.Path.{_≡_, refl, sym, ap, _∙_}
 use mathlib.Core.Bool.{Bool, true, false, cond, true≢false}
 use native.Mathlib.Decide.{decLt}
 use native.Mathlib.Omega.{arith}
 use lib.Dec.{eqb}
 use borrow.Author.Tests.{eq-eqb, ne-eqb, eqb-true}
-use Rattle.numbers.proofs.SearchLaws.{tally-none, tally-next, tally-mono}
+use Rattle.numbers.proofs.SearchLaws.{tally-none, tally-next, tally-mono, tally-le}
 use Rattle.model.specs.Ownership.{owns, held, rank, backTo}
 use Rattle.model.proofs.AddressLaws.{rank-is, back-rank}
 
@@ -40,12 +40,8 @@ module _ (owner : ℕ → ℕ) (q : ℕ) where
   held-same i f = omega (arith, held-next i, none-of (owner i) q f)
 
   pub held-le : (i : ℕ) → held owner i q ≤ i
-  held-le zero = omega (arith, held-none)
-  held-le (suc i) = omega (arith, held-le i, held-next i, one-at-most (eqb (owner i) q))
-    where
-      one-at-most : (b : Bool) → cond b 1 0 ≤ 1
-      one-at-most true = omega arith
-      one-at-most false = omega arith
+  unfolding held
+  held-le i = tally-le (owns owner q) i
 
   -- fewer below i than below n: i is below n
   pub held-lt : (i n : ℕ) → held owner i q < held owner n q → i < n

@@ -25,4 +25,7 @@ pub mod NeighbourLaws
 pub mod Demand3Holds
 pub mod FillsExist
 pub mod FillLoopLaws
+-- and into bytes
+pub mod ByteStores
 pub mod ByteFillsHold
+pub mod FillBounds

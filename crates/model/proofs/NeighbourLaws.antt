@@ -33,13 +33,14 @@ tried b c r w =
     (cond c (record { tries = 2; cells = w .cells }) (record { tries = 3; cells = r .cells + w .cells }))
 
 record Gone (r w : Step) (g : Going) : Type 0 where
+  some : 1 ≤ g .tries
   cheap : g .tries ≤ 3
   step : IsStep (TwoSteps r w) (g .cells)
 
 gone : (b c : Bool) (r w : Step) → Gone r w (tried b c r w)
-gone true c r w = record { cheap = lit≤ tt; step = inl refl }
-gone false true r w = record { cheap = lit≤ tt; step = inr (inl refl) }
-gone false false r w = record { cheap = lit≤ tt; step = inr (inr refl) }
+gone true c r w = record { some = lit≤ tt; cheap = lit≤ tt; step = inl refl }
+gone false true r w = record { some = lit≤ tt; cheap = lit≤ tt; step = inr (inl refl) }
+gone false false r w = record { some = lit≤ tt; cheap = lit≤ tt; step = inr (inr refl) }
 
 at-most : (up : Bool) (k q : ℕ) (s : Steps) → goOn up k q s .tries ≤ 3
 at-most up k q NoStep = lit≤ tt
@@ -50,6 +51,16 @@ at-most up k q (TwoSteps r w) = gone (fits up k q (r .column)) (fits (not up) k 
 pub cost-le : (x : Section) (t : ℕ) → cost x t ≤ 3
 unfolding cost going
 cost-le x t = at-most (upward x) (layout x .block) _ (stepsOf x)
+
+at-least : (up : Bool) (k q : ℕ) (s : Steps) → 1 ≤ goOn up k q s .tries
+at-least up k q NoStep = lit≤ tt
+at-least up k q (OneStep m) = lit≤ tt
+at-least up k q (TwoSteps r w) = gone (fits up k q (r .column)) (fits (not up) k q (w .column)) r w .some
+
+-- and at least one
+pub cost-some : (x : Section) (t : ℕ) → 1 ≤ cost x t
+unfolding cost going
+cost-some x t = at-least (upward x) (layout x .block) _ (stepsOf x)
 
 module _ (x : Section) (t : ℕ) where
   -- a next place that is not the count lies as many positions on as the cells walked have S

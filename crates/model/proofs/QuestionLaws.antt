@@ -213,13 +213,13 @@ pub record Accepted (x : Section) : Type 0 where
   pub last-inside : 0 < count x → isIndex (x .mapping) (elementAt (x .triplet) (count x - 1)) ≡ true
 
 -- the numbers of a triplet
-record Ranged (l h s : ℤ) : Type 0 where
-  lower : natAbs l ≤ 2147483647
-  upper : natAbs h ≤ 2147483647
-  some : 0 < natAbs s
-  step : natAbs s ≤ 2147483647
+pub record Ranged (l h s : ℤ) : Type 0 where
+  pub lower : natAbs l ≤ 2147483647
+  pub upper : natAbs h ≤ 2147483647
+  pub some : 0 < natAbs s
+  pub step : natAbs s ≤ 2147483647
 
-ranged : (x : Triplet) → inRange x ≡ true → Ranged (x .lower) (x .upper) (x .stride)
+pub ranged : (x : Triplet) → inRange x ≡ true → Ranged (x .lower) (x .upper) (x .stride)
 unfolding inRange
 ranged x e =
     let a = between least most (x .lower) in

@@ -102,7 +102,8 @@ module _ (x : Section) (ok : firstNo (ofSection x) ≡ 0) where
       let i : index x t ≤ layout x .size - 1 = omega (arith, index-lt t h) in
       omega (arith, mul-le-mul-left (layout x .stride) i, a .sized .inside (omega (arith, index-lt t h)))
 
-  index-moved : (t c : ℕ) → t + c < count x → Moved (upward x) (index x t) (index x (t + c)) (c * natAbs (x .triplet .stride))
+  -- c positions on, the index has moved by c times the size of s, in walking direction
+  pub index-moved : (t c : ℕ) → t + c < count x → Moved (upward x) (index x t) (index x (t + c)) (c * natAbs (x .triplet .stride))
   unfolding index elementAt upward
   index-moved t c h = at-moved (shaped (omega arith)) t c (omega arith)
 

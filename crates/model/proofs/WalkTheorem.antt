@@ -78,13 +78,13 @@ module _ (x : Section) (ok : firstNo (ofSection x) ≡ 0) where
             (λ f. lt-of-mul c i (spread x) (omega arith)) (λ f. omega (arith, up-to c f))
 
     -- with n cells to go, that are i times the spread
-    next-by : (s : Steps) → Some s → (n i : ℕ) → n ≡ i * spread x → nextBy x t n s ≡ cond (ltb (count x - 1 - t) i) (count x) (t + i)
+    pub next-by : (s : Steps) → Some s → (n i : ℕ) → n ≡ i * spread x → nextBy x t n s ≡ cond (ltb (count x - 1 - t) i) (count x) (t + i)
     unfolding nextBy
     next-by NoStep f n i e = absurd f
     next-by (OneStep m) f n i e = rw (div-eq-of-eq-mul-left (spread-pos x ok) e, e, past i)
     next-by (TwoSteps r w) f n i e = rw (div-eq-of-eq-mul-left (spread-pos x ok) e, e, past i)
 
-    turned : (i : ℕ) → cond (ltb (count x - 1 - t) i) (count x) (t + i) ≡ cond (ltb (t + i) (count x)) (t + i) (count x)
+    pub turned : (i : ℕ) → cond (ltb (count x - 1 - t) i) (count x) (t + i) ≡ cond (ltb (t + i) (count x)) (t + i) (count x)
     turned i = go (le-or-lt (count x) (t + i))
       where
         go : (count x ≤ t + i) ⊎ (t + i < count x)

@@ -1,11 +1,10 @@
 -- Fills into a list of bytes, "4 to an address, lowest byte first; up to 3 bytes left over are no entry and stay".
 -- Definitions only.
-use Prim.Native.Nat.{ℕ, _*_, _/_}
-use mathlib.Core.Path.{_≡_}
-use mathlib.Core.List.{List, map}
+use Prim.Native.Nat.{ℕ, suc, _*_}
+use mathlib.Core.List.{List, [], _∷_, map}
 use lib.IntN.{ℤ}
-use lib.ListN.{length, drop}
-use Rattle.numbers.specs.Words.{wordsOf}
+use lib.ListN.{take}
+use Rattle.numbers.specs.Words.{wordsOf, storeAt}
 use Rattle.model.specs.declared.Section.{Section}
 use Rattle.model.specs.Filling.{Outcome}
 use Rattle.model.specs.Calls.{FillCall, fill}
@@ -22,31 +21,35 @@ unfoldable pub inWords : ByteFill → FillCall
 inWords c =
     record { section = c .section; processor = c .processor; place = c .place; quota = c .quota; list = wordsOf 4 (c .bytes) }
 
--- what it leaves in the bytes: its list afterwards, and the bytes that are no entry as they were
-pub record Leaves (c : ByteFill) (bytes : List ℕ) : Type 0 where
-  pub words : wordsOf 4 bytes ≡ fill (inWords c) .filled .list
-  pub rest : drop (4 * (length (c .bytes) / 4)) bytes ≡ drop (4 * (length (c .bytes) / 4)) (c .bytes)
+-- an address stored as entry n: its 4 bytes, and nothing else
+abbrev pub storeEntry : List ℕ → ℕ → ℕ → List ℕ
+storeEntry bs n a = storeAt 4 bs (4 * n) a
 
--- a byte fill that was run
-pub record ByteRun : Type 0 where
-  pub call : ByteFill
-  pub bytes : List ℕ
-  pub leaves : Leaves call bytes
+-- addresses stored one after the other, from entry n on
+unfoldable pub storeEntries : List ℕ → ℕ → List ℕ → List ℕ
+storeEntries bs n [] = bs
+storeEntries bs n (a ∷ xs) = storeEntries (storeEntry bs n a) (suc n) xs
 
--- what it returned, and its list as the bytes afterwards give it
-unfoldable pub outcomeOf : ByteRun → Outcome
-outcomeOf r =
-    let o = fill (inWords (r .call)) in
+-- the bytes afterwards: each address that the fill wrote is stored
+unfoldable pub bytesAfter : ByteFill → List ℕ
+bytesAfter c =
+    let f = fill (inWords c) .filled in
+    storeEntries (c .bytes) 0 (take (f .entries) (f .list))
+
+-- what a byte fill returns, and its list as the bytes afterwards give it
+unfoldable pub outcomeOf : ByteFill → Outcome
+outcomeOf c =
+    let o = fill (inWords c) in
     record {
       refusal = o .refusal;
       filled = record {
         entries = o .filled .entries;
         tries = o .filled .tries;
         place = o .filled .place;
-        list = wordsOf 4 (r .bytes);
+        list = wordsOf 4 (bytesAfter c);
       };
     }
 
 -- the fills that byte fills stand for
-unfoldable pub callsOf : List ByteRun → List FillCall
-callsOf rs = map (λ r. inWords (r .call)) rs
+unfoldable pub callsOf : List ByteFill → List FillCall
+callsOf cs = map inWords cs

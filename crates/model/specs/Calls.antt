@@ -4,12 +4,15 @@ use Prim.Native.Nat.{ℕ}
 use mathlib.Core.Bool.{cond}
 use mathlib.Core.List.{List, _++_}
 use lib.Dec.{eqb}
-use lib.IntN.{ℤ}
+use lib.IntN.{ℤ, pos, negℤ}
 use Rattle.model.specs.declared.Mapping.{Mapping}
 use Rattle.model.specs.declared.Section.{Section}
+use Rattle.model.specs.declared.Step.{Step}
+use Rattle.model.specs.declared.Steps.{Steps}
+use Rattle.model.specs.declared.Steps.the-variants.{NoStep, OneStep, TwoSteps}
 use Rattle.model.specs.Ownership.{nat, layoutOf, ownerOf, rank, held, backTo}
-use Rattle.model.specs.Sections.{count, address}
-use Rattle.model.specs.Steps.{cost, nextPlace}
+use Rattle.model.specs.Sections.{count, address, firstPlace}
+use Rattle.model.specs.Steps.{stepsOf, cost, nextPlace}
 use Rattle.model.specs.Filling.{Walk, Request, Outcome, answer}
 use Rattle.model.specs.Questions.{Question, firstNo, ofMapping, ofSection, ofProcessor, ofIndex, ofAddress, ofPlace, ofQuota}
 
@@ -49,6 +52,55 @@ localCount m q =
     let e = firstNo (ofMapping m ++ ofProcessor m q) in
     cond (eqb e 0) (record { refusal = 0; elements = held (ownerOf (layoutOf m)) (nat (m .size)) (nat q) })
     (record { refusal = e; elements = 0 })
+
+-- ---- section steps
+
+-- a step as it is reported: its column move is negative where it goes back
+pub record StepReport : Type 0 where
+  pub cells : ℕ
+  pub courses : ℕ
+  pub column : ℤ
+
+-- the count, how many steps there are, and each: first the processor step or the one step, second the return step
+pub record SectionStepsAnswer : Type 0 where
+  pub refusal : ℕ
+  pub count : ℕ
+  pub steps : ℕ
+  pub first : StepReport
+  pub second : StepReport
+
+abbrev pub noReport : StepReport
+noReport = record { cells = 0; courses = 0; column = pos 0 }
+
+abbrev pub forward : Step → StepReport
+forward r = record { cells = r .cells; courses = r .courses; column = pos (r .column) }
+
+abbrev pub backward : Step → StepReport
+backward w = record { cells = w .cells; courses = w .courses; column = negℤ (pos (w .column)) }
+
+-- the report of the steps of a section of n elements
+abbrev pub stepsReport : ℕ → Steps → SectionStepsAnswer
+stepsReport n NoStep = record { refusal = 0; count = n; steps = 0; first = noReport; second = noReport }
+stepsReport n (OneStep x) = record { refusal = 0; count = n; steps = 1; first = forward x; second = noReport }
+stepsReport n (TwoSteps r w) = record { refusal = 0; count = n; steps = 2; first = forward r; second = backward w }
+
+unfoldable pub sectionSteps : Section → SectionStepsAnswer
+sectionSteps x =
+    let e = firstNo (ofSection x) in
+    cond (eqb e 0) (stepsReport (count x) (stepsOf x))
+    (record { refusal = e; count = 0; steps = 0; first = noReport; second = noReport })
+
+-- ---- first place
+
+pub record PlaceAnswer : Type 0 where
+  pub refusal : ℕ
+  pub place : ℕ
+
+-- the first place of processor q
+unfoldable pub firstPlaceAt : Section → ℤ → PlaceAnswer
+firstPlaceAt x q =
+    let e = firstNo (ofSection x ++ ofProcessor (x .mapping) q) in
+    cond (eqb e 0) (record { refusal = 0; place = firstPlace x (nat q) }) (record { refusal = e; place = 0 })
 
 -- ---- fill
 

@@ -55,6 +55,14 @@ module _ (f : ℕ → Bool) where
   tally-mono i j h =
       le-ind (λ (m : ℕ). tally f i ≤ tally f m) (le-refl (tally f i)) (λ m l e. omega (arith, e, tally-next m)) j h
 
+  pub tally-le : (i : ℕ) → tally f i ≤ i
+  tally-le zero = omega (arith, tally-none)
+  tally-le (suc i) = omega (arith, tally-le i, tally-next i, at-most-one (f i))
+    where
+      at-most-one : (b : Bool) → cond b 1 0 ≤ 1
+      at-most-one true = omega arith
+      at-most-one false = omega arith
+
   pub passing-yes : (a n : ℕ) → f a ≡ true → passing f a (suc n) ≡ a ∷ passing f (suc a) n
   unfolding passing
   passing-yes a n e = rw e
@@ -175,6 +183,16 @@ module _ (f : ℕ → Bool) (d a n : ℕ) where
 
   pub head-missing : First f a n Nothing → headOr d (passing f a n) ≡ d
   head-missing w = head-none d (passing f a n) (first-is f n a w)
+
+-- the first that passes of numbers up to N, or d, which is no larger
+pub head-le : (f : ℕ → Bool) (d N n a : ℕ) → d ≤ N → a + n ≤ suc N → headOr d (passing f a n) ≤ N
+unfolding headOr
+head-le f d N zero a h l = rw (passing-none f a) h
+head-le f d N (suc n) a h l = go (head-le f d N n (suc a) h (omega arith)) (f a) refl
+  where
+    go : headOr d (passing f (suc a) n) ≤ N → (b : Bool) → f a ≡ b → headOr d (passing f a (suc n)) ≤ N
+    go ih true e = rw (passing-yes f a n e) (omega arith)
+    go ih false e = rw (passing-no f a n e) ih
 
 -- the first that passes from a on is a + m where none before it does, unless that is N or past it
 pub head-skip : (f : ℕ → Bool) (N m n a : ℕ) → a + n ≡ N → ((j : ℕ) → a ≤ j → j < a + m → j < N → f j ≡ false) → (a + m < N → f (a + m) ≡ true)

@@ -8,7 +8,7 @@ use Rattle.model.specs.declared.Mapping.{Mapping}
 use Rattle.model.specs.Calls.{GoingBackAnswer, goingBack}
 use Rattle.model.proofs.AnswerLaws.{going-back-small}
 use Rattle.mapping.specs.Answers.{mappingOf, foundAs}
-use Rattle.hpfaddr.proofs.Parameters.{mapping-read}
+use Rattle.hpfaddr.proofs.ParameterLaws.{mapping-read}
 use Rattle.hpfaddr.proofs.hpf_going_back.Statement.{statement}
 use Rattle.hpfaddr.proofs.hpf_going_back.Tie as tie
 

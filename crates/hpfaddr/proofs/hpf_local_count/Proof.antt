@@ -8,7 +8,7 @@ use Rattle.model.specs.declared.Mapping.{Mapping}
 use Rattle.model.specs.Calls.{LocalCountAnswer, localCount}
 use Rattle.model.proofs.AnswerLaws.{local-count-small}
 use Rattle.mapping.specs.Answers.{mappingOf, countedAs}
-use Rattle.hpfaddr.proofs.Parameters.{mapping-read}
+use Rattle.hpfaddr.proofs.ParameterLaws.{mapping-read}
 use Rattle.hpfaddr.proofs.hpf_local_count.Statement.{statement}
 use Rattle.hpfaddr.proofs.hpf_local_count.Tie as tie
 

@@ -8,7 +8,7 @@ use Rattle.model.specs.declared.Mapping.{Mapping}
 use Rattle.model.specs.Calls.{OwnershipAnswer, ownership}
 use Rattle.model.proofs.AnswerLaws.{ownership-small}
 use Rattle.mapping.specs.Answers.{mappingOf, ownedAs}
-use Rattle.hpfaddr.proofs.Parameters.{mapping-read}
+use Rattle.hpfaddr.proofs.ParameterLaws.{mapping-read}
 use Rattle.hpfaddr.proofs.hpf_ownership.Statement.{statement}
 use Rattle.hpfaddr.proofs.hpf_ownership.Tie as tie
 

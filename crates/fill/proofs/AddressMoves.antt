@@ -1,0 +1,191 @@
+-- How the local address moves from a position of an accepted section to one n positions on, of the same processor: with
+-- alignment stride 1, with section stride 1 or -1, over whole periods, and alike from the same column. Assumes nothing.
+use Prim.Native.Nat.{ℕ, _+_, _-_, _*_, _/_, _%_, _<_}
+use mathlib.Core.Path.{_≡_, sym, ap, _∙_, subst}
+use mathlib.Core.Bool.{Bool, true, false}
+use native.Mathlib.Nat.{div-add-mod', add-mod, add-mul-mod-self-right, eq-of-mul-eq-mul-right}
+use native.Mathlib.Omega.{arith}
+use lib.Dec.{eqb}
+use lib.IntN.{natAbs}
+use Rattle.numbers.specs.Search.{tally}
+use Rattle.model.specs.declared.Layout.{Layout}
+use Rattle.model.specs.declared.Section.{Section}
+use Rattle.model.specs.Ownership.{owns, held, cellOf, cellOwner, courseCells, courseOf, columnOf, ownerOf}
+use Rattle.model.specs.Sections.{layout, count, index, cell, address, ownsAt}
+use Rattle.model.specs.Steps.{spread, upward}
+use Rattle.model.specs.Questions.{firstNo, ofSection}
+use Rattle.model.proofs.AddressLaws.{of-owns, rank-is}
+use Rattle.model.proofs.QuestionLaws.{accepted}
+use Rattle.model.proofs.SectionLaws.{Moved, index-moved, cells-moved}
+use Rattle.model.proofs.CellOwners.{course-pos, owner-rest, column-lt, split}
+use Rattle.mapping.proofs.CellLaws.{cells, rank-direct}
+use Rattle.fill.specs.SectionMoves.{onWay, columnAt}
+use Rattle.fill.proofs.TallyLaws.{tally-gap, tally-window, tally-period}
+
+-- ---- cells
+
+module _ (l : Layout) (p-pos : 0 < l .processors) (k-pos : 0 < l .block) where
+  -- cells of one owner that lie d courses and y₁ - y₂ columns apart
+  courses-apart : (c c′ d y₁ y₂ : ℕ) → cellOwner l c′ ≡ cellOwner l c → c′ + y₂ ≡ c + d * courseCells l + y₁
+      → columnOf l c′ + y₂ ≡ columnOf l c + y₁ → courseOf l c′ ≡ courseOf l c + d
+  unfolding courseOf
+  courses-apart c c′ d y₁ y₂ o e f =
+      let M = courseCells l in
+      let r = split l p-pos k-pos c in
+      let r′ = split l p-pos k-pos c′ in
+      let s = ap (λ (n : ℕ). n * l .block) o in
+      eq-of-mul-eq-mul-right (courseCells l) (course-pos l p-pos k-pos) (c′ / courseCells l) (c / courseCells l + d)
+      (omega (arith, div-add-mod' c (courseCells l), div-add-mod' c′ (courseCells l)))
+
+  -- whole courses do not change the owner
+  owner-again : (c d : ℕ) → cellOwner l (c + d * courseCells l) ≡ cellOwner l c
+  owner-again c d =
+      owner-rest l p-pos k-pos (c + d * courseCells l) ∙ ap (λ (z : ℕ). z / l .block) (add-mul-mod-self-right c d (courseCells l))
+      ∙ sym (owner-rest l p-pos k-pos c)
+
+  -- cells with the same rest are followed alike
+  owner-alike : (c c′ n : ℕ) → c % courseCells l ≡ c′ % courseCells l → cellOwner l (c + n) ≡ cellOwner l (c′ + n)
+  owner-alike c c′ n e = at c ∙ ap (λ (z : ℕ). (z + n % courseCells l) % courseCells l / l .block) e ∙ sym (at c′)
+    where
+      at : (z : ℕ) → cellOwner l (z + n) ≡ (z % courseCells l + n % courseCells l) % courseCells l / l .block
+      at z = owner-rest l p-pos k-pos (z + n) ∙ ap (λ (y : ℕ). y / l .block) (add-mod z n (courseCells l))
+
+  -- and so have one owner and one column
+  rest-same : (c c′ : ℕ) → cellOwner l c ≡ cellOwner l c′ → columnOf l c ≡ columnOf l c′ → c % courseCells l ≡ c′ % courseCells l
+  rest-same c c′ o e = omega (arith, split l p-pos k-pos c, split l p-pos k-pos c′, ap (λ (n : ℕ). n * l .block) o)
+
+-- columns that are the same in walking direction are the same
+same-way : (up : Bool) (k a b : ℕ) → a < k → b < k → onWay up k a ≡ onWay up k b → a ≡ b
+same-way true k a b h l e = e
+same-way false k a b h l e = omega arith
+
+-- ---- an accepted section
+module _ (x : Section) (ok : firstNo (ofSection x) ≡ 0) (q : ℕ) where
+  p-pos : 0 < layout x .processors
+  p-pos = accepted x ok .sized .processors-pos
+
+  k-pos : 0 < layout x .block
+  k-pos = accepted x ok .sized .block-pos
+
+  -- the owner of the cell at a position of the processor
+  owned : (t : ℕ) → ownsAt x q t ≡ true → cellOwner (layout x) (cell x t) ≡ q
+  unfolding ownsAt ownerOf cell
+  owned t o = of-owns (ownerOf (layout x)) q (index x t) o
+
+  -- does the processor own element i?
+  abbrev test : ℕ → Bool
+  test i = owns (ownerOf (layout x)) q i
+
+  address-is : (t : ℕ) → ownsAt x q t ≡ true → address x t ≡ tally test (index x t)
+  unfolding address held ownerOf cell
+  address-is t o = rank-is (ownerOf (layout x)) q (index x t) (owned t o)
+
+  moved-address : (t u d : ℕ) → ownsAt x q t ≡ true → ownsAt x q u ≡ true
+      → Moved (upward x) (tally test (index x t)) (tally test (index x u)) d → Moved (upward x) (address x t) (address x u) d
+  moved-address t u d o o′ h = rw (address-is t o, address-is u o′) h
+
+  -- a whole number of courses is a period of the test
+  again : (n c : ℕ) → n * spread x ≡ c * courseCells (layout x) → (j : ℕ) → test (n * natAbs (x .triplet .stride) + j) ≡ test j
+  unfolding owns ownerOf cellOf spread
+  again n c e j =
+      let w = natAbs (x .triplet .stride) in
+      let z : layout x .stride * (n * natAbs (x .triplet .stride) + j) + layout x .offset ≡ layout x .stride * j + layout x .offset + c * courseCells (layout x) =
+      omega (arith, e) in
+      ap (λ (y : ℕ). eqb (cellOwner (layout x) y) q) z
+      ∙ ap (λ (y : ℕ). eqb y q) (owner-again (layout x) p-pos k-pos (layout x .stride * j + layout x .offset) c)
+
+  -- the test goes on alike from positions of the processor in one column
+  alike : (t t′ : ℕ) → ownsAt x q t ≡ true → ownsAt x q t′ ≡ true → columnAt x t ≡ columnAt x t′ → (j : ℕ) → test (index x t + j) ≡ test (index x t′ + j)
+  unfolding owns ownerOf cellOf cell columnAt
+  alike t t′ o o′ c j =
+      let k = same-way (upward x) (layout x .block) _ _ (column-lt (layout x) p-pos k-pos (cell x t)) (column-lt (layout x) p-pos k-pos (cell x t′)) c in
+      let r = rest-same (layout x) p-pos k-pos (cell x t) (cell x t′) (owned t o ∙ sym (owned t′ o′)) k in
+      let on : (i : ℕ) → layout x .stride * (i + j) + layout x .offset ≡ layout x .stride * i + layout x .offset + layout x .stride * j = λ i. omega arith in
+      ap (λ (y : ℕ). eqb (cellOwner (layout x) y) q) (on (index x t))
+      ∙ ap (λ (y : ℕ). eqb y q) (owner-alike (layout x) p-pos k-pos (cell x t) (cell x t′) (layout x .stride * j) r)
+      ∙ sym (ap (λ (y : ℕ). eqb (cellOwner (layout x) y) q) (on (index x t′)))
+
+  -- ---- alignment stride 1
+  direct : layout x .stride ≡ 1 → (t : ℕ) → ownsAt x q t ≡ true
+      → address x t + cells (layout x) q (layout x .offset) ≡ layout x .block * courseOf (layout x) (cell x t) + columnOf (layout x) (cell x t)
+  unfolding address ownerOf cell
+  direct one t o =
+      ap (λ (z : ℕ). address x t + cells (layout x) z (layout x .offset)) (sym (owned t o))
+      ∙ rank-direct (layout x) (accepted x ok .sized) one (index x t)
+
+  -- n positions on, which are c courses and y₁ - y₂ columns: the address moves by c·k + y₁ - y₂
+  pub line-moves : layout x .stride ≡ 1 → (t n c y₁ y₂ d : ℕ) → t + n < count x → ownsAt x q t ≡ true → ownsAt x q (t + n) ≡ true
+      → n * spread x + y₂ ≡ c * courseCells (layout x) + y₁ → columnAt x (t + n) + y₂ ≡ columnAt x t + y₁
+      → d + y₂ ≡ c * layout x .block + y₁ → Moved (upward x) (address x t) (address x (t + n)) d
+  unfolding columnAt
+  line-moves one t n c y₁ y₂ d l o o′ e f g = go (upward x) (cells-moved x ok t n l) f
+    where
+      a : ℕ
+      a = cell x t
+
+      b : ℕ
+      b = cell x (t + n)
+
+      go : (up : Bool) → Moved up (cell x t) (cell x (t + n)) (n * spread x)
+          → onWay up (layout x .block) (columnOf (layout x) (cell x (t + n))) + y₂ ≡ onWay up (layout x .block) (columnOf (layout x) (cell x t)) + y₁
+          → Moved up (address x t) (address x (t + n)) d
+      go true h k =
+          let s = courses-apart (layout x) p-pos k-pos (cell x t) (cell x (t + n)) c y₁ y₂ (owned (t + n) o′ ∙ sym (owned t o)) (omega arith) k in
+          omega (arith, direct one t o, direct one (t + n) o′, ap (λ (z : ℕ). layout x .block * z) s)
+      go false h k =
+          let u = column-lt (layout x) p-pos k-pos (cell x t) in
+          let v = column-lt (layout x) p-pos k-pos (cell x (t + n)) in
+          let s = courses-apart (layout x) p-pos k-pos (cell x (t + n)) (cell x t) c y₁ y₂ (owned t o ∙ sym (owned (t + n) o′)) (omega arith) (omega arith) in
+          omega (arith, direct one t o, direct one (t + n) o′, ap (λ (z : ℕ). layout x .block * z) s)
+
+  -- ---- section stride 1 or -1: from a position of the processor to its next one, the address moves by 1
+  pub ones-move : natAbs (x .triplet .stride) ≡ 1 → (t n : ℕ) → t + n < count x → ownsAt x q t ≡ true → ownsAt x q (t + n) ≡ true → 0 < n
+      → ((j : ℕ) → 0 < j → j < n → ownsAt x q (t + j) ≡ false) → Moved (upward x) (address x t) (address x (t + n)) 1
+  unfolding ownsAt
+  ones-move one t n l o o′ some none = moved-address t (t + n) 1 o o′ (go (upward x) (at n l) (λ j h. at j (omega arith)))
+    where
+      at : (j : ℕ) → t + j < count x → Moved (upward x) (index x t) (index x (t + j)) j
+      at j h =
+          let e : j * natAbs (x .triplet .stride) ≡ j = omega (arith, ap (λ (z : ℕ). j * z) one) in
+          subst (Moved (upward x) (index x t) (index x (t + j))) e (index-moved x ok t j h)
+
+      go : (up : Bool) → Moved up (index x t) (index x (t + n)) n → ((j : ℕ) → j < n → Moved up (index x t) (index x (t + j)) j)
+          → Moved up (tally test (index x t)) (tally test (index x (t + n))) 1
+      go true e f =
+          ap (tally test) e
+          ∙ tally-gap test (index x t) n some o (λ j h k. ap test (sym (f j k)) ∙ none j h k)
+      go false e f =
+          ap (tally test) e
+          ∙ tally-gap test (index x (t + n)) n some o′
+          (λ j h k. let z : index x (t + n) + j ≡ index x (t + (n - j)) = omega (arith, f (n - j) (omega arith)) in
+          ap test z ∙ none (n - j) (omega arith) (omega arith))
+
+  -- ---- n positions that are whole courses: the address moves by the processor's elements in one period
+  pub periods-move : (t n c : ℕ) → t + n < count x → ownsAt x q t ≡ true → ownsAt x q (t + n) ≡ true → n * spread x ≡ c * courseCells (layout x)
+      → Moved (upward x) (address x t) (address x (t + n)) (held (ownerOf (layout x)) (n * natAbs (x .triplet .stride)) q)
+  unfolding held
+  periods-move t n c l o o′ e =
+      moved-address t (t + n) _ o o′ (go (upward x) (index x t) (index x (t + n)) (index-moved x ok t n l))
+    where
+      go : (up : Bool) (i i′ : ℕ) → Moved up i i′ (n * natAbs (x .triplet .stride))
+          → Moved up (tally test i) (tally test i′) (tally test (n * natAbs (x .triplet .stride)))
+      go true i i′ h = ap (tally test) h ∙ tally-period test i (n * natAbs (x .triplet .stride)) (again n c e)
+      go false i i′ h = ap (tally test) h ∙ tally-period test i′ (n * natAbs (x .triplet .stride)) (again n c e)
+
+  -- ---- any strides: from the same column, n positions on in the same column, the addresses move alike
+  pub columns-alike : (t t′ n : ℕ) → t + n < count x → t′ + n < count x
+      → ownsAt x q t ≡ true → ownsAt x q t′ ≡ true → ownsAt x q (t + n) ≡ true → ownsAt x q (t′ + n) ≡ true
+      → columnAt x t ≡ columnAt x t′ → columnAt x (t + n) ≡ columnAt x (t′ + n) → address x (t + n) + address x t′ ≡ address x (t′ + n) + address x t
+  columns-alike t t′ n l l′ o o′ p p′ c c′ =
+      rw (address-is t o, address-is t′ o′, address-is (t + n) p, address-is (t′ + n) p′)
+      (go (upward x) (index-moved x ok t n l) (index-moved x ok t′ n l′))
+    where
+      s : ℕ
+      s = natAbs (x .triplet .stride)
+
+      go : (up : Bool) → Moved up (index x t) (index x (t + n)) (n * natAbs (x .triplet .stride))
+          → Moved up (index x t′) (index x (t′ + n)) (n * natAbs (x .triplet .stride))
+          → tally test (index x (t + n)) + tally test (index x t′) ≡ tally test (index x (t′ + n)) + tally test (index x t)
+      go true h h′ = rw (h, h′) (tally-window test (index x t) (index x t′) (n * natAbs (x .triplet .stride)) (alike t t′ o o′ c))
+      go false h h′ =
+          omega (arith, ap (tally test) h, ap (tally test) h′, tally-window test (index x (t + n)) (index x (t′ + n)) (n * natAbs (x .triplet .stride)) (alike (t + n) (t′ + n) p p′ c′))

@@ -1,0 +1,100 @@
+-- Along an accepted section's walk the address moves by what depends on the column alone, so that moves can be learnt.
+-- Assumes nothing.
+use Prim.Native.Nat.{ℕ, _+_, _-_, _*_, _≤_, _<_}
+use mathlib.Core.Path.{_≡_, refl, sym, ap, _∙_, subst}
+use mathlib.Core.Bool.{Bool, true, false, true≢false}
+use native.Mathlib.Nat.{zero-add, le-mul-of-pos-right}
+use native.Mathlib.Decide.{decLt}
+use native.Mathlib.Omega.{arith}
+use lib.IntN.{natAbs}
+use Rattle.model.specs.declared.Section.{Section}
+use Rattle.model.specs.Ownership.{ownerOf, rank}
+use Rattle.model.specs.Sections.{layout, count, index, address, ownsAt}
+use Rattle.model.specs.Steps.{upward}
+use Rattle.model.specs.Questions.{firstNo, ofSection}
+use Rattle.model.specs.Calls.{walkOf}
+use Rattle.model.proofs.QuestionLaws.{accepted}
+use Rattle.model.proofs.SectionLaws.{Moved, index-moved, index-lt}
+use Rattle.fill.specs.declared.moves.Moves.{Moves}
+use Rattle.fill.specs.declared.moves.State.{State}
+use Rattle.fill.specs.Moving.{moveFrom}
+use Rattle.fill.specs.Driving.{Stands}
+use Rattle.fill.specs.SectionMoves.{columnAt, StandsAt, movesOf, elementsOf}
+use Rattle.fill.specs.Starting.{Evened}
+use Rattle.fill.specs.Learning.{shifted, elementAt, addressAt, Placed, Even}
+use Rattle.fill.proofs.PaceLaws.{paces, stands-in}
+use Rattle.fill.proofs.AddressMoves.{columns-alike}
+
+moved-shifted : (up : Bool) (i j n : ℕ) → Moved up i j n → shifted up i n ≡ j
+moved-shifted true i j n e = sym e
+moved-shifted false i j n e = omega arith
+
+module _ (x : Section) (ok : firstNo (ofSection x) ≡ 0) where
+  from-first : (t : ℕ) → t < count x → Moved (upward x) (index x 0) (index x t) (t * natAbs (x .triplet .stride))
+  from-first t h = subst (λ (u : ℕ). Moved (upward x) (index x 0) (index x u) (t * natAbs (x .triplet .stride))) (zero-add t) (index-moved x ok 0 t (omega arith))
+
+  -- the element at a position
+  pub element-is : (t : ℕ) → t < count x → elementAt (elementsOf x) t ≡ index x t
+  unfolding elementAt
+  element-is t h = moved-shifted (upward x) (index x 0) (index x t) _ (from-first t h)
+
+  pub address-is : (t : ℕ) → t < count x → address x t ≡ addressAt (elementsOf x) t
+  unfolding address addressAt
+  address-is t h = ap (rank (ownerOf (layout x))) (sym (element-is t h))
+
+  -- there are no more positions than elements
+  pub count-high : count x ≤ 2147483647
+  count-high = elim (decLt 0 (count x)) [
+    | no f ↦ omega arith
+    | yes h ↦ go (upward x) (from-first (count x - 1) (omega arith)) (index-lt x ok 0 h) (index-lt x ok (count x - 1) (omega arith))
+  ]
+    where
+      far : count x - 1 ≤ (count x - 1) * natAbs (x .triplet .stride)
+      far = le-mul-of-pos-right (count x - 1) (accepted x ok .step-pos)
+
+      go : (up : Bool) → Moved up (index x 0) (index x (count x - 1)) ((count x - 1) * natAbs (x .triplet .stride))
+          → index x 0 < layout x .size → index x (count x - 1) < layout x .size → count x ≤ 2147483647
+      go true e h l = omega (arith, far, accepted x ok .sized .size-high)
+      go false e h l = omega (arith, far, accepted x ok .sized .size-high)
+
+  -- each position has an element of the array
+  pub placed : Placed (elementsOf x) (count x)
+  placed = record {
+    sized = accepted x ok .sized;
+    few = omega (arith, count-high);
+    stride = omega (arith, accepted x ok .step-high);
+    falls = λ down t h. low (upward x) down t (from-first t h);
+    inside = λ t h. rw (element-is t h) (index-lt x ok t h);
+  }
+    where
+      low : (up : Bool) → up ≡ false → (t : ℕ) → Moved up (index x 0) (index x t) (t * natAbs (x .triplet .stride))
+          → t * natAbs (x .triplet .stride) ≤ index x 0
+      low true e t h = absurd (true≢false e)
+      low false e t h = omega arith
+
+  -- the walk of each processor q
+  pub even : (near far both q : ℕ) → Evened x q (movesOf x near far both)
+  unfolding walkOf paces
+  even near far both q =
+      record {
+        even = record { paces = paces x ok near far both q; address = λ t h o. address-is t h; alike = both-move };
+        stands = stands-in x ok near far both q;
+      }
+    where
+      -- where a place of the processor in column c leads
+      leads : (c t : ℕ) → t < count x → ownsAt x q t ≡ true → columnAt x t ≡ c → t + moveFrom (movesOf x near far both) c .places < count x
+          → (ownsAt x q (t + moveFrom (movesOf x near far both) c .places) ≡ true)
+          × (columnAt x (t + moveFrom (movesOf x near far both) c .places) ≡ moveFrom (movesOf x near far both) c .column)
+      leads c t h o e l =
+          let p = paces x ok near far both q in
+          let g : t + moveFrom (movesOf x near far both) (columnAt x t) .places < count x = rw e l in
+          rw (← e) (p .same t h o g, p .columns t h o g)
+
+      both-move : (t u : ℕ) → t < count x → u < count x → ownsAt x q t ≡ true → ownsAt x q u ≡ true → columnAt x t ≡ columnAt x u
+          → t + moveFrom (movesOf x near far both) (columnAt x t) .places < count x → u + moveFrom (movesOf x near far both) (columnAt x t) .places < count x
+          → address x (t + moveFrom (movesOf x near far both) (columnAt x t) .places) + address x u
+          ≡ address x (u + moveFrom (movesOf x near far both) (columnAt x t) .places) + address x t
+      both-move t u h l o o′ e g g′ =
+          let a = leads (columnAt x t) t h o refl g in
+          let b = leads (columnAt x t) u l o′ (sym e) g′ in
+          columns-alike x ok q t u (moveFrom (movesOf x near far both) (columnAt x t) .places) g g′ o o′ (a .0) (b .0) e (a .1 ∙ sym (b .1))

@@ -1,0 +1,153 @@
+-- Where an accepted fill starts: its state stands at its place, and the loops may start from it.
+use Prim.Native.Nat.{ℕ, _<_, _≤_}
+use mathlib.Core.Path.{_≡_, refl, sym, ap, _∙_, subst}
+use mathlib.Core.Bool.{Bool, true, false}
+use native.Mathlib.Nat.{mod-lt}
+use native.Mathlib.Omega.{arith}
+use mathlib.Core.List.{List}
+use lib.Dec.{lit<}
+use Rattle.numbers.specs.Words.{wordsOf}
+use Rattle.model.specs.declared.Section.{Section}
+use Rattle.model.specs.Ownership.{cellOf, columnOf, ownerOf, rank}
+use Rattle.model.specs.Sections.{layout, count, index, cell, address}
+use Rattle.model.specs.Filling.{Walk, Filled, fillBy}
+use Rattle.model.specs.Questions.{firstNo, ofSection}
+use Rattle.model.specs.Calls.{walkOf}
+use Rattle.model.proofs.ByteFillsHold.{address-low}
+use Rattle.section.specs.declared.questions.Strided.{Strided}
+use Rattle.section.specs.Strides.{Bounded, stridedOf, ownedAt}
+use Rattle.section.proofs.StridedSections.{owned-at}
+use Rattle.fill.specs.declared.moves.Moves.{Moves}
+use Rattle.fill.specs.declared.moves.State.{State}
+use Rattle.fill.specs.declared.moves.Report.{Report}
+use Rattle.fill.specs.declared.ready.Start.{Start}
+use Rattle.fill.specs.declared.learning.Elements.{Elements}
+use Rattle.fill.specs.declared.plan.Plan.the-variants.{Constant, Learnt}
+use Rattle.fill.specs.Moving.{Small}
+use Rattle.fill.specs.Bursts.{Starts}
+use Rattle.fill.specs.SectionMoves.{onWay, columnAt, StandsAt}
+use Rattle.fill.specs.Driving.{Drives, Stands, Fills, ByteFilled, FillsBytes}
+use Rattle.fill.specs.Learning.{elementAt, Even, FillsEven, FillsBytesEven}
+use Rattle.fill.specs.Starting.{Planned, Accepted, elementsIn, StateOf}
+use Rattle.fill.specs.Ready.{FillsFrom, FillsBytesFrom}
+use Rattle.fill.proofs.EvenLaws.{element-is}
+
+way-low : (up : Bool) (k q : ℕ) → q < k → onWay up k q < k
+way-low true k q h = h
+way-low false k q h = omega arith
+
+module _ (s : Start) (a : Accepted s) where
+  -- at the count there is no element to stand at
+  pub state-past : s .section .count ≤ s .place .0 → StateOf s (record { column = 0; address = record { 0 = 0 }; place = s .place; paid = 0 })
+  unfolding stridedOf
+  state-past h = record {
+    place = refl;
+    paid = refl;
+    column = a .started .section-bounded .sized .block-pos;
+    address = lit< tt;
+    stands = λ x ok same. record { mine = λ l. past x same l; column = λ l. past x same l; address = λ l. past x same l };
+  }
+    where
+      past : {A : Type 0} (x : Section) → s .section ≡ stridedOf x → s .place .0 < count x → A
+      past x same l = absurd (omega (arith, ap (λ (v : Strided). v .count) same))
+
+  -- the element i at the place, on cell c
+  module _ (i c q x : ℕ) (h : s .place .0 < s .section .count) (is : i ≡ elementAt (elementsIn (s .section)) (s .place .0))
+      (on : c ≡ cellOf (s .section .layout) i) (column : q ≡ onWay (s .section .upward) (s .section .layout .block) (columnOf (s .section .layout) c))
+      (addr : x ≡ rank (ownerOf (s .section .layout)) i) where
+    pub state-on : StateOf s (record { column = q; address = record { 0 = x }; place = s .place; paid = 0 })
+    unfolding columnOf stridedOf columnAt cell address
+    state-on = record {
+      place = refl;
+      paid = refl;
+      column = rw column (way-low (s .section .upward) _ _ (mod-lt c (a .started .section-bounded .sized .block-pos)));
+      address = low;
+      stands = at;
+    }
+      where
+        at : (y : Section) → firstNo (ofSection y) ≡ 0 → s .section ≡ stridedOf y
+            → StandsAt y (s .processor) (record { column = q; address = record { 0 = x }; place = s .place; paid = 0 })
+        at y ok same =
+            let e : (l : s .place .0 < count y) → i ≡ index y (s .place .0) =
+            λ l. is ∙ ap (λ (v : Strided). elementAt (elementsIn v) (s .place .0)) same ∙ element-is y ok (s .place .0) l in
+            record {
+              mine = λ l. owned-at y ok (s .processor) (s .place .0) l ∙ sym (ap (λ (v : Strided). ownedAt v (s .processor) (s .place .0)) same) ∙ a .started .owned h;
+              column = λ l.
+                  column ∙ ap (λ (v : Strided). onWay (v .upward) (v .layout .block) (columnOf (v .layout) c)) same
+                  ∙ ap (λ (z : ℕ). onWay (stridedOf y .upward) (layout y .block) (columnOf (layout y) z))
+                  (on ∙ ap (λ (v : Strided). cellOf (v .layout) i) same ∙ ap (cellOf (layout y)) (e l));
+              address = λ l. addr ∙ ap (λ (v : Strided). rank (ownerOf (v .layout)) i) same ∙ ap (rank (ownerOf (layout y))) (e l);
+            }
+
+        low : x < 4294967296
+        low =
+            let y = a .taken .source in
+            let l : s .place .0 < count y = omega (arith, ap (λ (v : Strided). v .count) (a .taken .same)) in
+            omega (arith, at y (a .taken .accepted) (a .taken .same) .address l, address-low y (a .taken .accepted) (s .place .0) l)
+
+  -- the loops may start from it
+  starts : (r : State) → StateOf s r → (m : Moves) → Small m → m .block ≡ layout (a .taken .source) .block → Starts m (s .section .count) (s .quota) r
+  unfolding stridedOf
+  starts r t m small b = record {
+    small = small;
+    sound = record { column = omega (arith, t .column, ap (λ (v : Strided). v .layout .block) (a .taken .same)); address = t .address };
+    few = omega (arith, a .started .section-bounded .count-high);
+    low = omega (arith, a .started .most);
+    place = omega (arith, t .place, a .started .place);
+    paid = t .paid;
+  }
+
+  pub constant-starts : (r : State) → StateOf s r → (m : Moves) → Planned (s .section) (s .processor) (Constant m) → Starts m (s .section .count) (s .quota) r
+  constant-starts r t m p = let f = p (a .taken .source) (a .taken .accepted) (a .taken .same) in starts r t m (f .0) (f .1)
+
+  pub learnt-starts : (r : State) → StateOf s r → (m : Moves) → Planned (s .section) (s .processor) (Learnt m) → Starts m (s .section .count) (s .quota) r
+  learnt-starts r t m p = let f = p (a .taken .source) (a .taken .accepted) (a .taken .same) in starts r t m (f .0) (f .1)
+
+  -- ---- what a loop gives of every walk that the plan's moves go along, it gives of the section's
+
+  module _ (r : State) (t : StateOf s r) (G : Filled → Type 0) (l : List ℕ) (m : Moves) where
+    by-constant : Planned (s .section) (s .processor) (Constant m)
+        → ((w : Walk) → w .count ≡ s .section .count → (d : Drives w m) → Stands w m (d .paces) r → G (fillBy w (r .place .0) (s .quota) l))
+        → (x : Section) → firstNo (ofSection x) ≡ 0 → s .section ≡ stridedOf x → G (fillBy (walkOf x) (s .place .0) (s .quota) l)
+    unfolding walkOf stridedOf
+    by-constant p f x ok same =
+        let d = p x ok same .2 in
+        subst (λ (z : ℕ). G (fillBy (walkOf x) z (s .quota) l)) (t .place)
+        (f (walkOf x) (sym (ap (λ (v : Strided). v .count) same)) (d .drives) (d .stands r (t .stands x ok same)))
+
+    by-learning : Planned (s .section) (s .processor) (Learnt m) → (e : Elements) → e ≡ elementsIn (s .section)
+        → ((w : Walk) → w .count ≡ s .section .count → (d : Even w m e) → Stands w m (d .paces) r → G (fillBy w (r .place .0) (s .quota) l))
+        → (x : Section) → firstNo (ofSection x) ≡ 0 → s .section ≡ stridedOf x → G (fillBy (walkOf x) (s .place .0) (s .quota) l)
+    unfolding walkOf stridedOf
+    by-learning p e is f x ok same =
+        let d = p x ok same .2 in
+        let g = subst (λ (e : Elements). (w : Walk) → w .count ≡ s .section .count → (d : Even w m e) → Stands w m (d .paces) r → G (fillBy w (r .place .0) (s .quota) l)) (is ∙ ap elementsIn same) f in
+        subst (λ (z : ℕ). G (fillBy (walkOf x) z (s .quota) l)) (t .place)
+        (g (walkOf x) (sym (ap (λ (v : Strided). v .count) same)) (d .even) (d .stands r (t .stands x ok same)))
+
+  module _ (r : State) (t : StateOf s r) (m : Moves) (l l′ : List ℕ) (o : Report) where
+    -- into words
+    words : Filled → Type 0
+    words f = f ≡ record { entries = o .entries; tries = o .tries; place = o .place .0; list = l′ }
+
+    pub words-constant : Planned (s .section) (s .processor) (Constant m) → Fills m (s .section .count) (s .quota) r l l′ o → FillsFrom s l l′ o
+    unfolding words
+    words-constant p f = by-constant r t words l m p f
+
+    pub words-learnt : Planned (s .section) (s .processor) (Learnt m) → (e : Elements) → e ≡ elementsIn (s .section)
+        → FillsEven e m (s .section .count) (s .quota) r l l′ o → FillsFrom s l l′ o
+    unfolding words
+    words-learnt p e is f = by-learning r t words l m p e is f
+
+    -- into bytes
+    bytes : Filled → Type 0
+    bytes f = ByteFilled f l l′ o
+
+    pub bytes-constant : Planned (s .section) (s .processor) (Constant m) → FillsBytes m (s .section .count) (s .quota) r l l′ o → FillsBytesFrom s l l′ o
+    unfolding bytes
+    bytes-constant p f = by-constant r t bytes (wordsOf 4 l) m p f
+
+    pub bytes-learnt : Planned (s .section) (s .processor) (Learnt m) → (e : Elements) → e ≡ elementsIn (s .section)
+        → FillsBytesEven e m (s .section .count) (s .quota) r l l′ o → FillsBytesFrom s l l′ o
+    unfolding bytes
+    bytes-learnt p e is f = by-learning r t bytes (wordsOf 4 l) m p e is f

@@ -1,0 +1,70 @@
+-- `burst` meets its contract.
+use Prim.Native.Nat.{_-_}
+use native.Mathlib.Omega.{arith}
+use borrow.Author.Needs.{needs}
+use Rattle.model.specs.ByteFills.{storeEntry}
+use Rattle.fill.specs.Moving.{Small, Sound, Roomy}
+use Rattle.fill.proofs.BurstLaws.{Bursting, bursting-starts, bursting-turns, bursting-ends, bursting-steps}
+use Rattle.fill.proofs.ByteRuns.{entry-length}
+use Rattle.fill.proofs.bytes.burst.Statement.{statement}
+use Rattle.fill.proofs.bytes.burst.Tie as tie
+
+abbrev Inv-loop : tie.InvT-loop
+Inv-loop m list₀ from turns s₀ i₀ list s i = Bursting storeEntry m list₀ from turns s₀ list s i
+
+abbrev μ-loop : tie.MeasureT-loop
+μ-loop m list₀ from turns s₀ i₀ list s i = turns - i
+
+-- what is known before each turn's step
+ready : (c : tie.In-loop Inv-loop μ-loop) → Small (c .before .before .before .args .m) × Sound (c .before .before .before .args .m) (c .before .loop .s) × Roomy (c .before .loop .s)
+ready c = bursting-steps storeEntry entry-length _ (c .before .loop .inv) (c .before .before .before .pre .0) (c .loop-test .taken)
+
+loop-holds : tie.Need-loop-holds Inv-loop μ-loop
+loop-holds c = bursting-starts storeEntry entry-length _
+
+add-put-entry : tie.Need-add-put-entry Inv-loop μ-loop
+add-put-entry c = search needs
+
+cast-put-entry : tie.Need-cast-put-entry Inv-loop μ-loop
+cast-put-entry c = omega (arith, ready (c .before .before) .1 .address)
+
+put-entry-requires : tie.Need-put-entry-requires Inv-loop μ-loop
+put-entry-requires c κs = search needs
+
+step-requires : tie.Need-step-requires Inv-loop μ-loop
+step-requires c κs = ready (c .before .before .before .before .before)
+
+add-i : tie.Need-add-i Inv-loop μ-loop
+add-i c = search needs
+
+loop-less : tie.Need-loop-less Inv-loop μ-loop
+loop-less c = search needs
+
+loop-again : tie.Need-loop-again Inv-loop μ-loop
+loop-again c =
+    let p = c .before .before .before in
+    let b = p .before .before .before in
+    rw (p .put-entry .ensures, c .step .ensures) (bursting-turns storeEntry entry-length _ (b .before .loop .inv) (b .loop-test .taken))
+
+same-length : tie.Need-same-length Inv-loop μ-loop
+same-length c = search needs
+
+returns : tie.Need-returns Inv-loop μ-loop
+returns c = bursting-ends storeEntry entry-length _ (c .before .loop .inv) (c .loop-test .left)
+
+pub burst-spec : {M : Type 1} → statement M
+burst-spec =
+    tie.close
+    (tie.spec
+    Inv-loop
+    μ-loop
+    loop-holds
+    add-put-entry
+    cast-put-entry
+    put-entry-requires
+    step-requires
+    add-i
+    loop-less
+    loop-again
+    same-length
+    returns)

@@ -1,0 +1,78 @@
+-- Questions 8, 10 and 11 of a fill, after those about its section, and what a fill that passed them may count on.
+-- Definitions only.
+use Prim.Native.Nat.{ℕ, _≤_, _<_}
+use mathlib.Core.Path.{_≡_}
+use mathlib.Core.Bool.{Bool, true, cond, _&&_, _||_}
+use mathlib.Core.List.{List, [], _∷_, _++_}
+use lib.Dec.{ltb, eqb}
+use lib.IntN.{ℤ, pos}
+use lib.Signed.{leZ}
+use Rattle.numbers.specs.Words.{wordsOf}
+use Rattle.model.specs.declared.Section.{Section}
+use Rattle.model.specs.Ownership.{nat}
+use Rattle.model.specs.Questions.{Question, ask, firstNo, between, isBelow, ofSection, ofProcessor, ofPlace, ofQuota}
+use Rattle.model.specs.Filling.{fillBy}
+use Rattle.model.specs.Calls.{walkOf}
+use Rattle.section.specs.declared.questions.Strided.{Strided}
+use Rattle.section.specs.Strides.{stridedOf, ownedAt, Bounded}
+use Rattle.fill.specs.declared.moves.Report.{Report}
+use Rattle.fill.specs.declared.ready.Start.{Start}
+use Rattle.fill.specs.declared.ready.Ready.{Ready}
+use Rattle.fill.specs.declared.ready.Ready.the-variants.{Go, Refused}
+use Rattle.fill.specs.Driving.{ByteFilled}
+
+-- ---- the questions
+
+-- a fill of an accepted section, if its questions, of which e is the first that is answered no, passed
+abbrev pub readyBy : Strided → ℤ → ℤ → ℤ → ℕ → Ready
+readyBy w q t z e =
+    cond (eqb e 0) (Go (record { section = w; processor = nat q; place = record { 0 = nat t }; quota = nat z })) (Refused e)
+
+unfoldable pub readyOf : Section → ℤ → ℤ → ℤ → Ready
+readyOf x q t z =
+    readyBy (stridedOf x) q t z (firstNo (ofSection x ++ ofProcessor (x .mapping) q ++ ofPlace x q t ++ ofQuota z))
+
+-- question 10, of an accepted section
+unfoldable pub isPlaceIn : Strided → ℕ → ℤ → Bool
+isPlaceIn w q t =
+    leZ (pos 0) t && (eqb (nat t) (w .count) || (ltb (nat t) (w .count) && ownedAt w q (nat t)))
+
+-- what is left to ask of an accepted section, and the answer
+abbrev pub leftOf : Strided → ℤ → ℤ → ℤ → List Question
+leftOf w q t z =
+    ask 8 (isBelow (pos (w .layout .processors)) q)
+    ∷ ask 10 (isPlaceIn w (nat q) t)
+    ∷ ask 11 (between (pos 3) (pos 1000000) z)
+    ∷ []
+
+unfoldable pub readyIn : Strided → ℤ → ℤ → ℤ → Ready
+readyIn w q t z = readyBy w q t z (firstNo (leftOf w q t z))
+
+-- ---- what a yes to all of them says
+
+pub record Started (s : Start) : Type 0 where
+  pub section-bounded : Bounded (s .section)
+  pub processor : s .processor < s .section .layout .processors
+  pub place : s .place .0 ≤ s .section .count
+  pub owned : s .place .0 < s .section .count → ownedAt (s .section) (s .processor) (s .place .0) ≡ true
+  pub least : 3 ≤ s .quota
+  pub most : s .quota ≤ 1000000
+
+-- what is known of each case
+abbrev pub SoundReady : Ready → Type 0
+SoundReady (Go s) = Started s
+SoundReady (Refused e) = 0 < e
+
+-- ---- what a fill that passed them gives
+
+-- Whatever accepted section it was, the fill along its walk gives what was reported, and the list afterwards.
+abbrev pub FillsFrom : Start → List ℕ → List ℕ → Report → Type 0
+FillsFrom s l l′ r =
+    (x : Section) → firstNo (ofSection x) ≡ 0 → s .section ≡ stridedOf x
+    → fillBy (walkOf x) (s .place .0) (s .quota) l ≡ record { entries = r .entries; tries = r .tries; place = r .place .0; list = l′ }
+
+-- the same of a list of bytes
+abbrev pub FillsBytesFrom : Start → List ℕ → List ℕ → Report → Type 0
+FillsBytesFrom s bs bs′ r =
+    (x : Section) → firstNo (ofSection x) ≡ 0 → s .section ≡ stridedOf x
+    → ByteFilled (fillBy (walkOf x) (s .place .0) (s .quota) (wordsOf 4 bs)) bs bs′ r

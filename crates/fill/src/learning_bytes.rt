@@ -1,0 +1,98 @@
+// Fills of a list of bytes by moves that are learnt.
+use crate::bytes::put_entry;
+use crate::learning::Elements;
+use crate::learning::{self};
+use crate::moves::Moves;
+use crate::moves::Report;
+use crate::moves::State;
+ghost use mathlib.Core.Path.{_≡_};
+ghost use Prim.Native.Nat.{ℕ};
+ghost use lib.ListN.{getD};
+ghost use Rattle.fill.specs.Bursts.{Starts};
+ghost use Rattle.fill.specs.Learning.{Placed, FillsBytesEven};
+
+// The fill by moves that are learnt, with a table that knows none yet.
+fn fill_learning(
+    e: Elements,
+    m: Moves,
+    count: u64,
+    quota: u64,
+    start: State,
+    table: &mut [u32],
+    list: &mut [u8],
+) -> Report
+    requires { ⌜ Placed e count × Starts m count quota start × ((q : ℕ) → getD (now table) q 0 ≡ 0) ⌝ }
+    ensures { λ r. ⌜ FillsBytesEven e m count quota start (now (list .entry)) (now (list .exit)) r ⌝ }
+{
+    let room = list.len() / 4;
+    let mut s = start;
+    let mut n: usize = 0;
+    while n < room {
+        if s.place.0 == count {
+            break;
+        }
+        if quota - s.paid < 3 {
+            break;
+        }
+        put_entry(list, n, s.address.0 as u32);
+        s = learning::turn(e, m, count, table, s);
+        n += 1;
+    }
+    let place = s.place;
+    Report {
+        entries: n,
+        tries: s.paid,
+        place: place,
+    }
+}
+
+fn with_short_table(
+    e: Elements,
+    m: Moves,
+    count: u64,
+    quota: u64,
+    start: State,
+    list: &mut [u8],
+) -> Report
+    requires { ⌜ Placed e count × Starts m count quota start ⌝ }
+    ensures { λ r. ⌜ FillsBytesEven e m count quota start (now (list .entry)) (now (list .exit)) r ⌝ }
+{
+    let mut table = [0u32; 1024];
+    fill_learning(e, m, count, quota, start, &mut table, list)
+}
+
+fn with_long_table(
+    e: Elements,
+    m: Moves,
+    count: u64,
+    quota: u64,
+    start: State,
+    list: &mut [u8],
+) -> Report
+    requires { ⌜ Placed e count × Starts m count quota start ⌝ }
+    ensures { λ r. ⌜ FillsBytesEven e m count quota start (now (list .entry)) (now (list .exit)) r ⌝ }
+{
+    let mut table = [0u32; 65536];
+    fill_learning(e, m, count, quota, start, &mut table, list)
+}
+
+// The fill by moves that are learnt. A short list does not pay for a long table: columns that
+// the table does not have are learnt each time.
+pub fn fill_bytes_learning(
+    e: Elements,
+    m: Moves,
+    count: u64,
+    quota: u64,
+    start: State,
+    list: &mut [u8],
+) -> Report
+    requires { ⌜ Placed e count × Starts m count quota start ⌝ }
+    ensures { λ r. ⌜ FillsBytesEven e m count quota start (now (list .entry)) (now (list .exit)) r ⌝ }
+{
+    if 1024 < m.block {
+        if 1024 < list.len() / 4 {
+            return with_long_table(e, m, count, quota, start, list);
+        }
+    }
+    with_short_table(e, m, count, quota, start, list)
+}

@@ -1,0 +1,54 @@
+// Fills of a lent list with a processor's addresses in a section, into 32-bit words and into
+// bytes. The questions are put in ready.rt; the loops know nothing of sections: their walk is
+// any that the moves drive, and a turn only adds and compares.
+ghost use mathlib.Core.Path.{_≡_};
+ghost use Rattle.model.specs.Calls as calls;
+ghost use Rattle.fill.specs.Answers.{outcomeAs, FilledBytes};
+use model::Section;
+use moves::Report;
+use ready::Ready;
+use ready::ask_fill;
+use start::fill_bytes_from;
+use start::fill_from;
+
+pub mod bytes;
+pub mod learning;
+pub mod learning_bytes;
+pub mod learning_words;
+pub mod moves;
+pub mod plan;
+pub mod ready;
+pub mod start;
+pub mod words;
+
+// What a fill reports, or the number of the question that was answered no.
+pub enum Filled {
+    Done(Report),
+    Refused(u32),
+}
+
+// A fill of 32-bit words.
+pub fn fill(x: Section, processor: i64, place: i64, quota: i64, list: &mut [u32]) -> Filled
+    ensures { λ r. ⌜ outcomeAs r (now (list .exit)) ≡ calls.fill (record { section = x; processor = processor; place = place; quota = quota; list = now (list .entry) }) ⌝ }
+{
+    match ask_fill(x, processor, place, quota) {
+        Ready::Go(s) => Filled::Done(fill_from(s, list)),
+        Ready::Refused(e) => Filled::Refused(e),
+    }
+}
+
+// A fill of bytes, 4 to an address, lowest first.
+pub fn fill_into_bytes(
+    x: Section,
+    processor: i64,
+    place: i64,
+    quota: i64,
+    list: &mut [u8],
+) -> Filled
+    ensures { λ r. ⌜ FilledBytes (record { section = x; processor = processor; place = place; quota = quota; bytes = now (list .entry) }) (now (list .exit)) r ⌝ }
+{
+    match ask_fill(x, processor, place, quota) {
+        Ready::Go(s) => Filled::Done(fill_bytes_from(s, list)),
+        Ready::Refused(e) => Filled::Refused(e),
+    }
+}

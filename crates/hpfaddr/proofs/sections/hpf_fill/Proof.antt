@@ -1,0 +1,104 @@
+-- `hpf_fill` meets its contract: the numbers that `fill_into_bytes` reports fit their fields, and the bytes are those that it left.
+use Prim.Native.Nat.{ℕ, _^_, _<_}
+use mathlib.Core.Path.{_≡_, sym, ap, subst, _∙_}
+use mathlib.Core.List.{List}
+use borrow.Author.Needs.{needs}
+use denote.Ref.{now}
+use mir.Syntax.{w64}
+use Rattle.numbers.proofs.Signed.{back}
+use Rattle.model.specs.declared.Section.{Section}
+use Rattle.model.specs.ByteFills.{ByteFill, inWords}
+use Rattle.model.specs.Calls.{fill}
+use Rattle.fill.specs.declared.Filled.the-variants.{Done}
+use Rattle.fill.specs.Answers.{FillReport, FilledBytes, reportAs, reportOf}
+use Rattle.hpfaddr.specs.Fields.{sectionFrom}
+use Rattle.hpfaddr.proofs.AnswerSizes.{fill-small}
+use Rattle.hpfaddr.proofs.ParameterLaws.{section-read, fill-read}
+use Rattle.hpfaddr.proofs.sections.hpf_fill.Statement.{statement}
+use Rattle.hpfaddr.proofs.sections.hpf_fill.Tie as tie
+
+section-of-requires : tie.Need-section-of-requires
+section-of-requires c κs = search needs
+
+fill-into-bytes-requires : tie.Need-fill-into-bytes-requires
+fill-into-bytes-requires c κs = search needs
+
+abbrev section : tie.Start → Section
+section s =
+    sectionFrom (s .args .cells) (s .args .processors) (s .args .block) (s .args .stride) (s .args .offset) (s .args .size) (s .args .lower) (s .args .upper) (s .args .step)
+
+-- the call, of the parameters
+abbrev call : tie.Start → ByteFill
+call s = record { section = section s; processor = s .args .processor; place = s .args .place; quota = s .args .quota; bytes = now (s .args .list) }
+
+-- what the call promised, of the parameters
+told : (c : tie.After-fill-into-bytes) (after : List ℕ) → let s : tie.Start = c .before .before .before .before in
+    FilledBytes (record {
+      section = c .before .before .section-of .result;
+      processor = back w64 (s .args .processor);
+      place = back w64 (s .args .place);
+      quota = back w64 (s .args .quota);
+      bytes = now (s .args .list);
+    }) after (c .fill-into-bytes .result)
+    → FilledBytes (call s) after (c .fill-into-bytes .result)
+told c after =
+    let made = c .before .before in
+    let s = made .before .before in
+    fill-read (s .args .processor) (s .args .place) (s .args .quota) (s .fits .processor) (s .fits .place) (s .fits .quota)
+    (section-read _ _ _ _ _ _ _ _ _ (s .fits .cells) (s .fits .processors) (s .fits .block) (s .fits .stride) (s .fits .offset) (s .fits .size) (s .fits .lower) (s .fits .upper) (s .fits .step) (made .section-of .ensures))
+    (now (s .args .list)) after (c .fill-into-bytes .result)
+
+enum-known-r : tie.Need-enum-known-r
+enum-known-r c = search needs
+
+report : (c : tie.After-r) → let s : tie.Start = c .before .before .before .before .before .before .before .before in
+    reportAs (Done (c .r .given .0 .0)) ≡ reportOf (fill (inWords (call s)))
+report c =
+    let f = c .before .before .before .before in
+    sym (ap reportAs (c .r .given .1)) ∙ told f _ (f .fill-into-bytes .ensures) .0
+
+cast-t21 : tie.Need-cast-t21
+cast-t21 c = record { fits = subst (λ (a : FillReport). a .entries < 2 ^ 32) (sym (report (c .before .before))) (fill-small _ .0) }
+
+cast-t22 : tie.Need-cast-t22
+cast-t22 c = record { fits = subst (λ (a : FillReport). a .tries < 2 ^ 32) (sym (report (c .before .before .before))) (fill-small _ .1) }
+
+cast-t23 : tie.Need-cast-t23
+cast-t23 c = record { fits = subst (λ (a : FillReport). a .place < 2 ^ 32) (sym (report (c .before .before .before .before))) (fill-small _ .2) }
+
+enum-known-e : tie.Need-enum-known-e
+enum-known-e c = search needs
+
+same-length : tie.Need-same-length
+same-length c = search needs
+
+returns : tie.Need-returns
+returns c =
+    let arm = c .before .before .before .before in
+    let f = arm .before .before .before .before in
+    (report arm, told f _ (f .fill-into-bytes .ensures) .1)
+
+same-length-2 : tie.Need-same-length-2
+same-length-2 c = search needs
+
+returns-2 : tie.Need-returns-2
+returns-2 c =
+    let f = c .before .before .before .before .before in
+    let t = told f _ (f .fill-into-bytes .ensures) in
+    (sym (ap reportAs (c .before .e .given .1)) ∙ t .0, t .1)
+
+pub hpf-fill-spec : {M : Type 1} → statement M
+hpf-fill-spec =
+    tie.close
+    (tie.spec
+    section-of-requires
+    fill-into-bytes-requires
+    enum-known-r
+    cast-t21
+    cast-t22
+    cast-t23
+    enum-known-e
+    same-length
+    returns
+    same-length-2
+    returns-2)

@@ -1,0 +1,64 @@
+-- `hpf_first_place` meets its contract: the place that `first_place` answers fits its field.
+use Prim.Native.Nat.{_^_, _<_}
+use mathlib.Core.Path.{_≡_, sym, ap, subst, _∙_}
+use borrow.Author.Needs.{needs}
+use mir.Syntax.{w64}
+use mir.ValLaws.{toZ-ofZ}
+use Rattle.model.specs.declared.Section.{Section}
+use Rattle.model.specs.Calls.{PlaceAnswer, firstPlaceAt}
+use Rattle.section.specs.Answers.{placedAs}
+use Rattle.hpfaddr.specs.Fields.{sectionFrom}
+use Rattle.hpfaddr.proofs.AnswerSizes.{first-place-small}
+use Rattle.hpfaddr.proofs.ParameterLaws.{section-read}
+use Rattle.hpfaddr.proofs.sections.hpf_first_place.Statement.{statement}
+use Rattle.hpfaddr.proofs.sections.hpf_first_place.Tie as tie
+
+section-of-requires : tie.Need-section-of-requires
+section-of-requires c κs = search needs
+
+first-place-requires : tie.Need-first-place-requires
+first-place-requires c κs = search needs
+
+abbrev section : tie.Start → Section
+section s =
+    sectionFrom (s .args .cells) (s .args .processors) (s .args .block) (s .args .stride) (s .args .offset) (s .args .size) (s .args .lower) (s .args .upper) (s .args .step)
+
+-- the answer, of the parameters
+answer : (c : tie.After-first-place) → let s : tie.Start = c .before .before in placedAs (c .first-place .result) ≡ firstPlaceAt (section s) (s .args .processor)
+answer c =
+    let s = c .before .before in
+    let x : c .before .section-of .result ≡ section s =
+    section-read _ _ _ _ _ _ _ _ _ (s .fits .cells) (s .fits .processors) (s .fits .block) (s .fits .stride) (s .fits .offset) (s .fits .size) (s .fits .lower) (s .fits .upper) (s .fits .step) (c .before .section-of .ensures) in
+    c .first-place .ensures ∙ (λ i. firstPlaceAt (x i) (toZ-ofZ w64 (s .args .processor) (s .fits .processor) i))
+
+enum-known-t : tie.Need-enum-known-t
+enum-known-t c = search needs
+
+placed : (c : tie.After-t) → let s : tie.Start = c .before .before .before .before in
+    record { refusal = 0; place = c .t .given .0 .0 .0 } ≡ firstPlaceAt (section s) (s .args .processor)
+placed c = sym (ap placedAs (c .t .given .1)) ∙ answer (c .before .before)
+
+cast-t16 : tie.Need-cast-t16
+cast-t16 c =
+    record { fits = subst (λ (a : PlaceAnswer). a .place < 2 ^ 32) (sym (placed (c .before .before))) (first-place-small _ _) }
+
+enum-known-e : tie.Need-enum-known-e
+enum-known-e c = search needs
+
+returns : tie.Need-returns
+returns c = placed (c .before .before)
+
+returns-2 : tie.Need-returns-2
+returns-2 c = sym (ap placedAs (c .before .e .given .1)) ∙ answer (c .before .before .before)
+
+pub hpf-first-place-spec : {M : Type 1} → statement M
+hpf-first-place-spec =
+    tie.close
+    (tie.spec
+    section-of-requires
+    first-place-requires
+    enum-known-t
+    cast-t16
+    enum-known-e
+    returns
+    returns-2)

@@ -1,0 +1,199 @@
+// The C functions of sections and fills.
+ghost use mathlib.Core.Path.{_≡_};
+ghost use Rattle.model.specs.Calls.{noReport, sectionSteps, firstPlaceAt};
+ghost use Rattle.section.specs.Answers.{stepAs};
+ghost use Rattle.hpfaddr.specs.Fields.{stepsFields, placedFields, sectionFrom, FilledFields};
+use crate::parameters::section_of;
+use fill::Filled;
+use section::place::Placed;
+use section::report::Reported;
+use section::report::SectionSteps;
+
+#[repr(C)]
+pub struct HpfSteps {
+    pub refusal: u64,
+    pub count: u64,
+    pub steps: u64,
+    pub cells: u64,
+    pub courses: u64,
+    pub column: i64,
+    pub return_cells: u64,
+    pub return_courses: u64,
+    pub return_column: i64,
+}
+
+// The fields of one step, or of two; those of a step that there is not are 0.
+fn step_fields(count: u64, steps: u64, step: Reported, back: Reported) -> HpfSteps
+    ensures { λ r. ⌜ stepsFields r ≡ record { refusal = 0; count = count; steps = steps; first = stepAs step; second = stepAs back } ⌝ }
+{
+    HpfSteps {
+        refusal: 0,
+        count,
+        steps,
+        cells: step.cells,
+        courses: step.courses,
+        column: step.column,
+        return_cells: back.cells,
+        return_courses: back.courses,
+        return_column: back.column,
+    }
+}
+
+fn no_step(refusal: u32, count: u64) -> HpfSteps
+    ensures { λ r. ⌜ stepsFields r ≡ record { refusal = refusal; count = count; steps = 0; first = noReport; second = noReport } ⌝ }
+{
+    HpfSteps {
+        refusal: refusal as u64,
+        count,
+        steps: 0,
+        cells: 0,
+        courses: 0,
+        column: 0,
+        return_cells: 0,
+        return_courses: 0,
+        return_column: 0,
+    }
+}
+
+// The count of a section and its steps: the processor step, or the one step, and the
+// return step, whose column move is negative.
+#[no_mangle]
+pub extern "C" fn hpf_section_steps(
+    cells: i64,
+    processors: i64,
+    block: i64,
+    stride: i64,
+    offset: i64,
+    size: i64,
+    lower: i64,
+    upper: i64,
+    step: i64,
+) -> HpfSteps
+    ensures { λ r. ⌜ stepsFields r ≡ sectionSteps (sectionFrom cells processors block stride offset size lower upper step) ⌝ }
+{
+    let x = section_of(
+        cells,
+        processors,
+        block,
+        stride,
+        offset,
+        size,
+        lower,
+        upper,
+        step,
+    );
+    match section::section_steps(x) {
+        SectionSteps::NoStep(n) => no_step(0, n),
+        SectionSteps::OneStep(n, r) => step_fields(
+            n,
+            1,
+            r,
+            Reported {
+                cells: 0,
+                courses: 0,
+                column: 0,
+            },
+        ),
+        SectionSteps::TwoSteps(n, r, w) => step_fields(n, 2, r, w),
+        SectionSteps::Refused(e) => no_step(e, 0),
+    }
+}
+
+#[repr(C)]
+pub struct HpfPlaced {
+    pub refusal: u32,
+    pub place: u32,
+}
+
+// The lowest position whose element a processor owns, or the count.
+#[no_mangle]
+pub extern "C" fn hpf_first_place(
+    cells: i64,
+    processors: i64,
+    block: i64,
+    stride: i64,
+    offset: i64,
+    size: i64,
+    lower: i64,
+    upper: i64,
+    step: i64,
+    processor: i64,
+) -> HpfPlaced
+    ensures { λ r. ⌜ placedFields r ≡ firstPlaceAt (sectionFrom cells processors block stride offset size lower upper step) processor ⌝ }
+{
+    let x = section_of(
+        cells,
+        processors,
+        block,
+        stride,
+        offset,
+        size,
+        lower,
+        upper,
+        step,
+    );
+    match section::first_place(x, processor) {
+        Placed::At(t) => HpfPlaced {
+            refusal: 0,
+            place: t.0 as u32,
+        },
+        Placed::Refused(e) => HpfPlaced {
+            refusal: e,
+            place: 0,
+        },
+    }
+}
+
+#[repr(C)]
+pub struct HpfFilled {
+    pub refusal: u32,
+    pub entries: u32,
+    pub tries: u32,
+    pub place: u32,
+}
+
+// A fill of a list of bytes, 4 to an address, lowest first.
+#[no_mangle]
+pub extern "C" fn hpf_fill(
+    cells: i64,
+    processors: i64,
+    block: i64,
+    stride: i64,
+    offset: i64,
+    size: i64,
+    lower: i64,
+    upper: i64,
+    step: i64,
+    processor: i64,
+    place: i64,
+    quota: i64,
+    list: &mut [u8],
+) -> HpfFilled
+    ensures { λ r. ⌜ FilledFields (sectionFrom cells processors block stride offset size lower upper step) processor place quota (now (list .entry)) (now (list .exit)) r ⌝ }
+{
+    let x = section_of(
+        cells,
+        processors,
+        block,
+        stride,
+        offset,
+        size,
+        lower,
+        upper,
+        step,
+    );
+    match fill::fill_into_bytes(x, processor, place, quota, list) {
+        Filled::Done(r) => HpfFilled {
+            refusal: 0,
+            entries: r.entries as u32,
+            tries: r.tries as u32,
+            place: r.place.0 as u32,
+        },
+        Filled::Refused(e) => HpfFilled {
+            refusal: e,
+            entries: 0,
+            tries: 0,
+            place: 0,
+        },
+    }
+}

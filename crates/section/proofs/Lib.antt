@@ -1,0 +1,14 @@
+-- Laws of accepted sections, and of the answers of this crate.
+pub mod StridedLaws
+-- the questions and what they lead to
+pub mod TripletAnswers
+pub mod StridedSections
+pub mod SectionAnswers
+-- steps
+pub mod FallLaws
+pub mod StepAnswers
+-- places
+pub mod Windows
+pub mod PlaceLaws
+-- the public calls
+pub mod CallAnswers

@@ -1,0 +1,57 @@
+-- `section_steps` meets its contract: each case of the answer to questions 1 to 7 has its law.
+use mathlib.Core.Path.{sym, ap, _∙_, subst}
+use borrow.Author.Needs.{needs}
+use Rattle.model.specs.Calls.{stepsReport}
+use Rattle.section.specs.Strides.{Bounded}
+use Rattle.section.specs.Answers.{Sound, Short}
+use Rattle.section.proofs.StepAnswers.{short}
+use Rattle.section.proofs.CallAnswers.{steps-by, steps-refused}
+use Rattle.section.proofs.section_steps.Statement.{statement}
+use Rattle.section.proofs.section_steps.Tie as tie
+
+ask-section-requires : tie.Need-ask-section-requires
+ask-section-requires c κs = search needs
+
+enum-known-w : tie.Need-enum-known-w
+enum-known-w c = search needs
+
+-- an accepted section has its bounds
+bounded : (c : tie.After-w) → Bounded (c .w .given .0 .0)
+bounded c = subst Sound (c .w .given .1) (c .before .before .ask-section .ensures .1)
+
+steps-of-requires : tie.Need-steps-of-requires
+steps-of-requires c κs = bounded (c .before)
+
+report-of-requires : tie.Need-report-of-requires
+report-of-requires c κs =
+    let arm = c .before .before in
+    subst Short (sym (c .steps-of .ensures)) (short (arm .w .given .0 .0) (bounded arm))
+
+enum-known-q : tie.Need-enum-known-q
+enum-known-q c = search needs
+
+returns : tie.Need-returns
+returns c =
+    let arm = c .before .before .before in
+    let asked = arm .before .before in
+    let w = arm .w .given .0 .0 in
+    c .report-of .ensures ∙ ap (stepsReport (w .count)) (c .before .steps-of .ensures)
+    ∙ steps-by (asked .before .args .x) w (sym (asked .ask-section .ensures .0) ∙ arm .w .given .1)
+
+returns-2 : tie.Need-returns-2
+returns-2 c =
+    let arm = c .before in
+    let asked = arm .before .before in
+    steps-refused (asked .before .args .x) (arm .q .given .0 .0) (sym (asked .ask-section .ensures .0) ∙ arm .q .given .1)
+
+pub section-steps-spec : {M : Type 1} → statement M
+section-steps-spec =
+    tie.close
+    (tie.spec
+    ask-section-requires
+    enum-known-w
+    steps-of-requires
+    report-of-requires
+    enum-known-q
+    returns
+    returns-2)

@@ -1,0 +1,84 @@
+-- The answers of this crate, each case read as document 01's numbers. Definitions only.
+use Prim.Native.Nat.{ℕ, _≤_, _<_}
+use mathlib.Core.Bool.{Bool, true, false, cond}
+use lib.Dec.{eqb}
+use lib.IntN.{ℤ, pos}
+use Rattle.model.specs.declared.Layout.{Layout}
+use Rattle.model.specs.declared.Section.{Section}
+use Rattle.model.specs.declared.Step.{Step}
+use Rattle.model.specs.declared.Steps.{Steps}
+use Rattle.model.specs.declared.Steps.the-variants.{NoStep, OneStep, TwoSteps}
+use Rattle.model.specs.Ownership.{nat}
+use Rattle.model.specs.Questions.{isBelow, firstNo, ofTriplet, ofSection}
+use Rattle.model.specs.Calls.{StepReport, noReport, forward, backward, SectionStepsAnswer, PlaceAnswer}
+use Rattle.section.specs.declared.questions.Asked.{Asked}
+use Rattle.section.specs.declared.questions.Asked.the-variants.{By, Refused}
+use Rattle.mapping.specs.Answers.{mappingOf}
+use Rattle.section.specs.declared.questions.Strided.{Strided}
+use Rattle.section.specs.declared.report.Reported.{Reported}
+use Rattle.section.specs.declared.report.SectionSteps.{SectionSteps}
+use Rattle.section.specs.declared.report.SectionSteps.the-variants as steps
+use Rattle.section.specs.declared.place.Placed.{Placed}
+use Rattle.section.specs.declared.place.Placed.the-variants as placed
+use Rattle.section.specs.Strides.{tripletOf, stridedOf, Bounded, placeIn}
+
+-- the section if its questions, of which e is the first that is answered no, passed
+abbrev pub askedBy : Section → ℕ → Asked
+askedBy x e = cond (eqb e 0) (By (stridedOf x)) (Refused e)
+
+-- l:h:s of an array whose mapping is a layout's
+abbrev pub sectionOf : Layout → ℤ → ℤ → ℤ → Section
+sectionOf m l h s = record {
+  mapping = mappingOf (pos (m .cells)) (pos (m .processors)) (pos (m .block)) (pos (m .stride)) (pos (m .offset)) (pos (m .size));
+  triplet = tripletOf l h s;
+}
+
+-- questions 6 and 7, and 1 to 7
+unfoldable pub tripletAsked : Section → Asked
+tripletAsked x = askedBy x (firstNo (ofTriplet x))
+
+unfoldable pub askedOf : Section → Asked
+askedOf x = askedBy x (firstNo (ofSection x))
+
+-- what is known of each case: an accepted section has every bound
+abbrev pub Sound : Asked → Type 0
+Sound (By w) = Bounded w
+Sound (Refused q) = 0 < q
+
+-- ---- section steps
+
+abbrev pub noSteps : ℕ → SectionStepsAnswer
+noSteps e = record { refusal = e; count = 0; steps = 0; first = noReport; second = noReport }
+
+abbrev pub stepAs : Reported → StepReport
+stepAs r = record { cells = r .cells; courses = r .courses; column = r .column }
+
+abbrev pub stepsAs : SectionSteps → SectionStepsAnswer
+stepsAs (steps.NoStep n) = record { refusal = 0; count = n; steps = 0; first = noReport; second = noReport }
+stepsAs (steps.OneStep n r) = record { refusal = 0; count = n; steps = 1; first = stepAs r; second = noReport }
+stepsAs (steps.TwoSteps n r w) = record { refusal = 0; count = n; steps = 2; first = stepAs r; second = stepAs w }
+stepsAs (steps.Refused e) = noSteps e
+
+-- a step that goes back, or on
+abbrev pub reportBy : Bool → Step → StepReport
+reportBy true = backward
+reportBy false = forward
+
+-- steps whose column moves are no larger than a block
+abbrev pub Short : Steps → Type 0
+Short NoStep = Unit {0}
+Short (OneStep r) = r .column ≤ 65536
+Short (TwoSteps r w) = (r .column ≤ 65536) × (w .column ≤ 65536)
+
+-- ---- first place
+
+abbrev pub noPlace : ℕ → PlaceAnswer
+noPlace e = record { refusal = e; place = 0 }
+
+abbrev pub placedAs : Placed → PlaceAnswer
+placedAs (placed.At t) = record { refusal = 0; place = t .0 }
+placedAs (placed.Refused e) = noPlace e
+
+-- what is left to ask of an accepted section, and the answer
+unfoldable pub firstPlaceIn : Strided → ℤ → PlaceAnswer
+firstPlaceIn w q = cond (isBelow (pos (w .layout .processors)) q) (record { refusal = 0; place = placeIn w (nat q) }) (noPlace 8)

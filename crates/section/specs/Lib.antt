@@ -1,0 +1,5 @@
+-- What the contracts of `section` cite beside the model.
+pub mod Strides
+pub mod Answers
+pub mod Places
+pub mod Falls

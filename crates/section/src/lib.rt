@@ -1,0 +1,41 @@
+// Sections of an array that is aligned to a template dealt in blocks: which are accepted,
+// their steps, and each processor's first place. The questions are put in questions.rt,
+// the arithmetic of an accepted section stands in the other modules.
+ghost use mathlib.Core.Path.{_≡_};
+ghost use Rattle.model.specs.Calls.{sectionSteps, firstPlaceAt};
+ghost use Rattle.section.specs.Answers.{stepsAs, placedAs};
+use model::Section;
+use place::Placed;
+use place::placed_in;
+use questions::Asked;
+use questions::ask_section;
+use report::SectionSteps;
+use report::report_of;
+use steps::steps_of;
+
+pub mod count;
+pub mod place;
+pub mod questions;
+pub mod report;
+pub mod steps;
+pub mod strides;
+
+// The count of a section and its steps.
+pub fn section_steps(x: Section) -> SectionSteps
+    ensures { λ r. ⌜ stepsAs r ≡ sectionSteps x ⌝ }
+{
+    match ask_section(x) {
+        Asked::By(w) => report_of(w.count, steps_of(w)),
+        Asked::Refused(q) => SectionSteps::Refused(q),
+    }
+}
+
+// The lowest position whose element the processor owns, or the count if there is none.
+pub fn first_place(x: Section, processor: i64) -> Placed
+    ensures { λ r. ⌜ placedAs r ≡ firstPlaceAt x processor ⌝ }
+{
+    match ask_section(x) {
+        Asked::By(w) => placed_in(w, processor),
+        Asked::Refused(q) => Placed::Refused(q),
+    }
+}

@@ -1,0 +1,110 @@
+//! Fills that must be refused: lawful ones in which numbers are exchanged for
+//! others that are at fault.
+
+use crate::generator::Generator;
+use crate::section_enumeration::{count, element};
+use crate::section_library::{Fill, Triplet};
+
+const LARGEST: i64 = 2_147_483_647;
+const MOST_FAULTS: u64 = 3;
+
+/// Exchanges a number of a fill for one that is at fault in the lawful fill.
+type Fault = fn(&mut Generator, &Fill, &mut Fill);
+
+/// A fault for each question of a fill.
+const FAULTS: [Fault; 10] = [
+    |generator, _, fill| fill.m.cells = outside(generator, 1, LARGEST),
+    |generator, _, fill| fill.m.processors = outside(generator, 1, 1_024),
+    |generator, _, fill| fill.m.block = outside(generator, 1, 65_536),
+    spoil_alignment,
+    spoil_size,
+    spoil_triplet,
+    spoil_elements,
+    |generator, lawful, fill| fill.processor = outside(generator, 0, lawful.m.processors - 1),
+    spoil_place,
+    |generator, _, fill| fill.quota = outside(generator, 3, 1_000_000),
+];
+
+/// The lawful fill with one to three faults.
+pub fn spoil(generator: &mut Generator, lawful: &Fill) -> Fill {
+    let mut fill = *lawful;
+    for _ in 0..generator.within(1, MOST_FAULTS) {
+        let fault = FAULTS[generator.below(FAULTS.len() as u64) as usize];
+        fault(generator, lawful, &mut fill);
+    }
+    fill
+}
+
+/// A number below `low` or above `high`: next to them, far away, or one that
+/// seems lawful once its high bits are lost.
+fn outside(generator: &mut Generator, low: i64, high: i64) -> i64 {
+    match generator.below(6) {
+        0 => low - 1,
+        1 => high + 1,
+        2 => low - (1 << 32),
+        3 => low + (1 << 32),
+        4 => i64::MIN,
+        _ => i64::MAX,
+    }
+}
+
+fn spoil_alignment(generator: &mut Generator, _: &Fill, fill: &mut Fill) {
+    match generator.below(2) {
+        0 => fill.m.stride = outside(generator, 1, LARGEST),
+        _ => fill.m.offset = outside(generator, 0, LARGEST),
+    }
+}
+
+/// A size out of range, or the first that does not fit the template.
+fn spoil_size(generator: &mut Generator, lawful: &Fill, fill: &mut Fill) {
+    let m = &lawful.m;
+    fill.m.size = match generator.below(2) {
+        0 => outside(generator, 0, LARGEST),
+        _ => (m.cells - 1 - m.offset) / m.stride + 2,
+    };
+}
+
+fn spoil_triplet(generator: &mut Generator, _: &Fill, fill: &mut Fill) {
+    match generator.below(4) {
+        0 => fill.triplet.lower = outside(generator, -LARGEST, LARGEST),
+        1 => fill.triplet.upper = outside(generator, -LARGEST, LARGEST),
+        2 => fill.triplet.step = outside(generator, -LARGEST, LARGEST),
+        _ => fill.triplet.step = 0,
+    }
+}
+
+/// A section of one element beside the array, or whose last element is the
+/// first beyond it.
+fn spoil_elements(generator: &mut Generator, lawful: &Fill, fill: &mut Fill) {
+    let Triplet { lower, step, .. } = lawful.triplet;
+    let beside = [-1, lawful.m.size][generator.below(2) as usize];
+    if count(&lawful.triplet) == 0 || generator.below(2) == 0 {
+        fill.triplet = Triplet {
+            lower: beside,
+            upper: beside,
+            step,
+        };
+    } else {
+        let end = if step > 0 { lawful.m.size } else { -1 };
+        fill.triplet = Triplet {
+            lower,
+            upper: end + step - step.signum(),
+            step,
+        };
+    }
+}
+
+/// A place outside the section, or of an element that another processor owns.
+fn spoil_place(generator: &mut Generator, lawful: &Fill, fill: &mut Fill) {
+    let count = count(&lawful.triplet);
+    let position = generator.below(count + 1);
+    let is_owned = position == count || {
+        let index = element(&lawful.triplet, position);
+        lawful.m.array().owner(index) == lawful.processor as u64
+    };
+    fill.place = if is_owned {
+        outside(generator, 0, count as i64)
+    } else {
+        position as i64
+    };
+}

@@ -1,0 +1,172 @@
+//! Fills one after another, from a place to the end of a processor's list, with
+//! refused fills between them.
+
+use std::ops::Range;
+
+use crate::comparison::{Comparison, Outcome};
+use crate::faults;
+use crate::generator::Generator;
+use crate::memory::Memory;
+use crate::processor_list::{self, List};
+use crate::questions;
+use crate::section_comparison::Filling;
+use crate::section_library::Fill;
+
+const LARGEST_QUOTA: u64 = 1_000_000;
+const GUARD: u64 = 8;
+
+/// Runs chains, and counts the fills that were accepted and that met each refusal.
+pub struct Chains<'a> {
+    pub comparison: &'a mut Comparison,
+    pub generator: Generator,
+    /// Entries of the longest list that is lent.
+    longest_list: u64,
+    accepted: u64,
+    refused: [u64; 12],
+}
+
+/// What the caller of a chain keeps, and what was got so far.
+struct Chain<'a> {
+    list: &'a List,
+    /// The next fill, from the place that stands.
+    fill: Fill,
+    memory: Memory,
+    addresses: Vec<u32>,
+    tries: u64,
+}
+
+impl Chains<'_> {
+    pub fn new(comparison: &mut Comparison, seed: u64, longest_list: u64) -> Chains<'_> {
+        Chains {
+            comparison,
+            generator: Generator::new(seed),
+            longest_list,
+            accepted: 0,
+            refused: [0; 12],
+        }
+    }
+
+    /// The counts in words.
+    pub fn words(&self) -> String {
+        let accepted = self.accepted;
+        let refused: u64 = self.refused.iter().sum();
+        let kinds = [1, 2, 3, 4, 5, 6, 7, 8, 10, 11].map(|kind| self.refused[kind]);
+        let least = kinds.into_iter().min().unwrap_or(0);
+        format!("{accepted} fills and {refused} refused ones ({least} or more of each kind)")
+    }
+
+    /// Fills from the list's first entry until its end, and once more there.
+    pub fn run(&mut self, list: &List, fill: Fill) -> Outcome {
+        let mut chain = Chain::new(list, fill, self.longest_list);
+        loop {
+            let was_at_end = chain.is_at_end();
+            while self.generator.below(2) == 0 {
+                self.fill_at_fault(&mut chain)?;
+            }
+            self.fill_lawfully(&mut chain)?;
+            if was_at_end {
+                return chain.compare_whole(self.comparison);
+            }
+        }
+    }
+
+    fn fill_at_fault(&mut self, chain: &mut Chain) -> Outcome {
+        chain.fill.quota = self.random_quota();
+        let fill = faults::spoil(&mut self.generator, &chain.fill);
+        let refusal = questions::of_fill(&fill);
+        self.refused[refusal as usize] += 1;
+        let list = self.random_list(self.longest_list);
+        let expected = Filling::refused(refusal);
+        self.comparison
+            .fill(&fill, &mut chain.memory, list, &expected)?;
+        Ok(())
+    }
+
+    /// Compares a fill with what the rule allows, and keeps what it gave.
+    fn fill_lawfully(&mut self, chain: &mut Chain) -> Outcome {
+        self.accepted += 1;
+        chain.fill.quota = self.random_quota();
+        let list = self.random_list(chain.known_entries().min(self.longest_list));
+        let expected = chain.expected(list.len() / 4);
+        let start = list.start;
+        let filled = self
+            .comparison
+            .fill(&chain.fill, &mut chain.memory, list, &expected)?;
+        let written = chain.memory.read(start, filled.entries as usize);
+        chain.addresses.extend(written);
+        chain.tries += filled.tries as u64;
+        chain.fill.place = i64::from(filled.place);
+        Ok(())
+    }
+
+    /// The least, a few, some, or among the most.
+    fn random_quota(&mut self) -> i64 {
+        let quota = match self.generator.below(4) {
+            0 => 3,
+            1 => self.generator.within(3, 9),
+            2 => self.generator.within(3, 2 * self.longest_list),
+            _ => LARGEST_QUOTA - self.generator.below(3),
+        };
+        quota as i64
+    }
+
+    /// Where a list of no, one, two or more entries stands, with up to 3 bytes
+    /// left over.
+    fn random_list(&mut self, most: u64) -> Range<usize> {
+        let entries = match self.generator.below(6) {
+            few @ 0..=2 => few.min(most),
+            _ => self.generator.of_any_size(most + 1) - 1,
+        };
+        let start = GUARD + self.generator.below(8);
+        let end = start + 4 * entries + self.generator.below(4);
+        start as usize..end as usize
+    }
+}
+
+impl<'a> Chain<'a> {
+    /// The memory has room for the longest list, an odd start, bytes left over,
+    /// and guards.
+    fn new(list: &'a List, fill: Fill, longest_list: u64) -> Chain<'a> {
+        let place = list.place_after(0) as i64;
+        let memory = GUARD + 8 + 4 * longest_list + 3 + GUARD;
+        Chain {
+            list,
+            fill: Fill { place, ..fill },
+            memory: Memory::new(memory as usize),
+            addresses: Vec::new(),
+            tries: 0,
+        }
+    }
+
+    fn is_at_end(&self) -> bool {
+        self.fill.place as u64 == self.list.end
+    }
+
+    /// How many entries a fill may take so that what it does is known.
+    fn known_entries(&self) -> u64 {
+        let left = self.list.entries.len() - self.addresses.len();
+        if self.list.is_whole {
+            u64::MAX
+        } else {
+            left as u64
+        }
+    }
+
+    fn expected(&self, room: usize) -> Filling {
+        let taken = self.addresses.len();
+        let entries = self.list.taken_next(taken, self.fill.quota as u64, room);
+        Filling::of(entries, self.list.place_after(taken + entries.len()))
+    }
+
+    /// The whole list was got, in order, for the tries of all its entries.
+    fn compare_whole(&self, comparison: &mut Comparison) -> Outcome {
+        let entries = &self.list.entries;
+        let got = (&self.addresses, self.tries, self.fill.place as u64);
+        let expected = (
+            &processor_list::addresses(entries),
+            processor_list::tries(entries),
+            self.list.end,
+        );
+        comparison.same(got, expected, || format!("chain of {:?}", self.fill))
+    }
+}

@@ -30,7 +30,6 @@ module _ (l : Layout) (p-pos : 0 < l .processors) (k-pos : 0 < l .block) where
       → columnOf l c′ + y₂ ≡ columnOf l c + y₁ → courseOf l c′ ≡ courseOf l c + d
   unfolding courseOf
   courses-apart c c′ d y₁ y₂ o e f =
-      let M = courseCells l in
       let r = split l p-pos k-pos c in
       let r′ = split l p-pos k-pos c′ in
       let s = ap (λ (n : ℕ). n * l .block) o in
@@ -88,7 +87,6 @@ module _ (x : Section) (ok : firstNo (ofSection x) ≡ 0) (q : ℕ) where
   again : (n c : ℕ) → n * spread x ≡ c * courseCells (layout x) → (j : ℕ) → test (n * natAbs (x .triplet .stride) + j) ≡ test j
   unfolding owns ownerOf cellOf spread
   again n c e j =
-      let w = natAbs (x .triplet .stride) in
       let z : layout x .stride * (n * natAbs (x .triplet .stride) + j) + layout x .offset ≡ layout x .stride * j + layout x .offset + c * courseCells (layout x) =
       omega (arith, e) in
       ap (λ (y : ℕ). eqb (cellOwner (layout x) y) q) z
@@ -120,12 +118,6 @@ module _ (x : Section) (ok : firstNo (ofSection x) ≡ 0) (q : ℕ) where
   unfolding columnAt
   line-moves one t n c y₁ y₂ d l o o′ e f g = go (upward x) (cells-moved x ok t n l) f
     where
-      a : ℕ
-      a = cell x t
-
-      b : ℕ
-      b = cell x (t + n)
-
       go : (up : Bool) → Moved up (cell x t) (cell x (t + n)) (n * spread x)
           → onWay up (layout x .block) (columnOf (layout x) (cell x (t + n))) + y₂ ≡ onWay up (layout x .block) (columnOf (layout x) (cell x t)) + y₁
           → Moved up (address x t) (address x (t + n)) d
@@ -180,9 +172,6 @@ module _ (x : Section) (ok : firstNo (ofSection x) ≡ 0) (q : ℕ) where
       rw (address-is t o, address-is t′ o′, address-is (t + n) p, address-is (t′ + n) p′)
       (go (upward x) (index-moved x ok t n l) (index-moved x ok t′ n l′))
     where
-      s : ℕ
-      s = natAbs (x .triplet .stride)
-
       go : (up : Bool) → Moved up (index x t) (index x (t + n)) (n * natAbs (x .triplet .stride))
           → Moved up (index x t′) (index x (t′ + n)) (n * natAbs (x .triplet .stride))
           → tally test (index x (t + n)) + tally test (index x t′) ≡ tally test (index x (t′ + n)) + tally test (index x t)

@@ -94,7 +94,6 @@ module _ (w : Walk) (m : Moves) (small : Small m) (d : Drives w m) {f : Filled} 
   unfolding stepsOn burstBy stepped
   runs-on zero h = rw add-zero r
   runs-on (suc i) h =
-      let t = stepsOn m i s in
       let b = steps-within m small s v i in
       let before = runs-on i (omega arith) in
       let here : stepsOn m i s .place .0 < w .count = omega (arith, place-before m small s v all i h, sure .places) in

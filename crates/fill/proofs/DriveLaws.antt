@@ -62,7 +62,6 @@ module _ (x : Section) (ok : firstNo (ofSection x) ≡ 0) (q : ℕ) where
             ⊎-elim
             (λ two.
             let v = shape-at x ok two Suits near far both suited t in
-            let n = moveFrom (movesOf x near far both) (columnAt x t) .places in
             let p = paces x ok near far both q in
             let c = p .columns t h o l in
             let m = moves two t _ (v .c) (v .y₁) (v .y₂) _ l o (p .same t h o l) (v .places) (v .cells) (ap (λ (z : ℕ). z + v .y₂) c ∙ v .columns) (v .suits) in
@@ -106,7 +105,6 @@ module _ (x : Section) (ok : firstNo (ofSection x) ≡ 0) (q : ℕ) where
   pub drives-line : layout x .stride ≡ 1 → (r w : Step) → stepsOf x ≡ TwoSteps r w
       → Driven x q (lineMoves (upward x) (layout x .block) (spread x) r w)
   drives-line one r w e =
-      let k = layout x .block in
       let law = subst (LawOf (courseCells (layout x)) (layout x .block) (spread x)) e step-laws .1 in
       let far : lineFar (layout x .block) w + w .column ≡ w .courses * layout x .block =
       omega (arith, law .few, mul-le-mul-right (layout x .block) (law .courses-pos)) in

@@ -29,3 +29,5 @@ pub mod FillLoopLaws
 pub mod ByteStores
 pub mod ByteFillsHold
 pub mod FillBounds
+-- transfers
+pub mod TransferLaws

@@ -1,7 +1,7 @@
 -- The walk theorem: in an accepted section, the next place after a position is the next position that the same processor
 -- owns, or the count.
-use Prim.Native.Nat.{ℕ, suc, _+_, _-_, _*_, _≤_, _<_}
-use mathlib.Core.Path.{_≡_, sym, _∙_, subst}
+use Prim.Native.Nat.{ℕ, suc, _+_, _-_, _*_, _/_, _≤_, _<_}
+use mathlib.Core.Path.{_≡_, sym, ap, _∙_, subst}
 use mathlib.Core.Bool.{Bool, true, false, cond}
 use mathlib.Core.Logic.{_⊎_, inl, inr}
 use native.Mathlib.Nat.{mul-lt-mul-of-pos-right, div-eq-of-eq-mul-left}
@@ -92,6 +92,16 @@ module _ (x : Section) (ok : firstNo (ofSection x) ≡ 0) where
         go (inl l) = rw (lt-ltb (count x - 1 - t) i (omega arith), le-ltb (t + i) (count x) l)
         go (inr l) = rw (le-ltb (count x - 1 - t) i (omega arith), lt-ltb (t + i) (count x) l)
 
+    -- with two or more positions, the next place by how many positions the cells to go are
+    pub next-place-by : 2 ≤ count x
+        → let u : ℕ = t + going x t .cells / spread x in nextPlace x t ≡ cond (ltb u (count x)) u (count x)
+    unfolding nextPlace stepsOf
+    next-place-by two =
+        let m = going-nearest two t .multiple in
+        let e : going x t .cells / spread x ≡ m .index = div-eq-of-eq-mul-left (spread-pos x ok) (m .cells) in
+        next-by (stepsOf x) (some-steps (count x) (courseCells (layout x)) (layout x .block) (spread x) two) (going x t .cells) (m .index) (m .cells)
+        ∙ turned (m .index) ∙ ap (λ (i : ℕ). cond (ltb (t + i) (count x)) (t + i) (count x)) (sym e)
+
     module _ (two : 2 ≤ count x) (q : ℕ) (mine : ownsAt x q t ≡ true) where
       w : Nearest (layout x) (upward x) (cell x t) (spread x) (going x t .cells)
       w = going-nearest two t
@@ -135,10 +145,10 @@ module _ (x : Section) (ok : firstNo (ofSection x) ≡ 0) where
           there = omega (arith, w .multiple .some)
 
       walk-on : nextPlace x t ≡ headOr (count x) (passing (ownsAt x q) (suc t) (count x - suc t))
-      unfolding nextPlace stepsOf i
+      unfolding i
       walk-on =
-          next-by (stepsOf x) (some-steps (count x) (courseCells (layout x)) (layout x .block) (spread x) two) (going x t .cells) i (w .multiple .cells)
-          ∙ turned i ∙ sym next-owned
+          let e : going x t .cells / spread x ≡ i = div-eq-of-eq-mul-left (spread-pos x ok) (w .multiple .cells) in
+          next-place-by two ∙ ap (λ (n : ℕ). cond (ltb (t + n) (count x)) (t + n) (count x)) e ∙ sym next-owned
 
 pub walks : (x : Section) → firstNo (ofSection x) ≡ 0 → Walks x
 unfolding Walks nextPlace nextBy stepsOf stepsBy headOr

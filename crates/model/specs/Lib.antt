@@ -9,4 +9,6 @@ pub mod Calls
 pub mod Demand2
 pub mod Demand3
 pub mod ByteFills
+pub mod Transfers
+pub mod Sheets
 pub mod Starred

@@ -10,5 +10,7 @@ pub mod StepAnswers
 -- places
 pub mod Windows
 pub mod PlaceLaws
+pub mod GoingLaws
+pub mod ElementLaws
 -- the public calls
 pub mod CallAnswers

@@ -3,3 +3,5 @@ pub mod Strides
 pub mod Answers
 pub mod Places
 pub mod Falls
+pub mod Going
+pub mod Elements

@@ -14,7 +14,10 @@ use report::report_of;
 use steps::steps_of;
 
 pub mod count;
+pub mod elements;
+pub mod going;
 pub mod place;
+pub mod positions;
 pub mod questions;
 pub mod report;
 pub mod steps;

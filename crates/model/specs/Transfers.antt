@@ -1,0 +1,141 @@
+-- Document 01, "Transfers": for left(section) = right(section), the entries of a pair of processors, the questions of a call
+-- and what it answers and writes. Definitions only.
+use Prim.Native.Nat.{ℕ, zero, suc, _+_, _<_}
+use mathlib.Core.Path.{_≡_}
+use mathlib.Core.Bool.{Bool, true, cond, _&&_}
+use mathlib.Core.List.{List, [], _∷_, _++_}
+use lib.Dec.{leb, eqb}
+use lib.IntN.{ℤ}
+use lib.ListN.{length, getD, drop}
+use Rattle.numbers.specs.Search.{passing}
+use Rattle.model.specs.declared.Section.{Section}
+use Rattle.model.specs.Ownership.{nat}
+use Rattle.model.specs.Sections.{layout, count, address, ownsAt}
+use Rattle.model.specs.Questions.{Question, ask, firstNo, ofSection, ofProcessor}
+
+-- ---- the entries of a pair
+
+-- "sender q owns right elements, receiver m left ones": is position t an entry of their pair?
+unfoldable pub isEntry : Section → Section → ℕ → ℕ → ℕ → Bool
+isEntry left right q m t = ownsAt right q t && ownsAt left m t
+
+-- "the entries of the pair are all positions t owned by q on the right and m on the left"
+unfoldable pub pairPlaces : Section → Section → ℕ → ℕ → List ℕ
+pairPlaces left right q m = passing (isEntry left right q m) 0 (count left)
+
+-- ---- a call
+
+-- the three lists: section positions, sender's addresses, receiver's addresses
+pub record Lists : Type 0 where
+  pub positions : List ℕ
+  pub sent : List ℕ
+  pub received : List ℕ
+
+pub record TransferCall : Type 0 where
+  pub left : Section
+  pub right : Section
+  pub sender : ℤ
+  pub receiver : ℤ
+  pub lists : Lists
+
+-- 12
+abbrev pub ofCounts : ℕ → ℕ → List Question
+ofCounts n k = ask 12 (eqb n k) ∷ []
+
+-- 13, of a pair of n entries
+abbrev pub ofRoom : ℕ → Lists → List Question
+ofRoom n x = ask 13 (leb n (length (x .positions)) && leb n (length (x .sent)) && leb n (length (x .received))) ∷ []
+
+-- "1 to 7 for the left, 1 to 7 for the right, 8 for sender, 8 for receiver, 12"
+abbrev pub ofPair : Section → Section → ℤ → ℤ → List Question
+ofPair left right q m =
+    ofSection left ++ ofSection right ++ ofProcessor (right .mapping) q ++ ofProcessor (left .mapping) m
+    ++ ofCounts (count left) (count right)
+
+-- how many entries the pair has
+unfoldable pub entriesOf : TransferCall → ℕ
+entriesOf c = length (pairPlaces (c .left) (c .right) (nat (c .sender)) (nat (c .receiver)))
+
+-- and 13
+abbrev pub ofTransfer : TransferCall → List Question
+ofTransfer c = ofPair (c .left) (c .right) (c .sender) (c .receiver) ++ ofRoom (entriesOf c) (c .lists)
+
+-- "13 adds the entries needed"; every other field of a refusal is 0
+pub record TransferAnswer : Type 0 where
+  pub refusal : ℕ
+  pub entries : ℕ
+  pub needed : ℕ
+
+-- "the call returns how many there are"
+unfoldable pub transfers : TransferCall → TransferAnswer
+transfers c =
+    let e = firstNo (ofTransfer c) in
+    let n = entriesOf c in
+    cond (eqb e 0) (record { refusal = 0; entries = n; needed = 0 })
+    (record { refusal = e; entries = 0; needed = cond (eqb e 13) n 0 })
+
+-- ---- what a call writes
+
+-- "list entries after those stay"
+pub record Kept (n : ℕ) (before after : List ℕ) : Type 0 where
+  pub same-length : length after ≡ length before
+  pub rest : drop n after ≡ drop n before
+
+-- position t stands at exactly one of the first n places of a list
+pub record StandsOnce (n : ℕ) (l : List ℕ) (t : ℕ) : Type 0 where
+  pub place : ℕ
+  pub below : place < n
+  pub there : getD l place 0 ≡ t
+  pub only : (i : ℕ) → i < n → getD l i 0 ≡ t → i ≡ place
+
+-- "each once, as t, sender's address, receiver's address, in three lists": the first n entries are the n entries of the
+-- pair. Their order is left open in this edition: where a position stands is not said, but that it stands there once.
+pub record PairListed (left right : Section) (q m n : ℕ) (before after : Lists) : Type 0 where
+  -- each place holds a position of the pair, and each position of the pair has one place
+  pub below : (i : ℕ) → i < n → getD (after .positions) i 0 < count left
+  pub entry : (i : ℕ) → i < n → isEntry left right q m (getD (after .positions) i 0) ≡ true
+  pub once : (t : ℕ) → t < count left → isEntry left right q m t ≡ true → StandsOnce n (after .positions) t
+  -- the addresses are those of the position at the same place
+  pub sent : (i : ℕ) → i < n → getD (after .sent) i 0 ≡ address right (getD (after .positions) i 0)
+  pub received : (i : ℕ) → i < n → getD (after .received) i 0 ≡ address left (getD (after .positions) i 0)
+  pub positions-kept : Kept n (before .positions) (after .positions)
+  pub sent-kept : Kept n (before .sent) (after .sent)
+  pub received-kept : Kept n (before .received) (after .received)
+
+-- the lists after a call: of a refusal "no list is written"
+pub record ListsAfter (c : TransferCall) (after : Lists) : Type 0 where
+  pub accepted :
+      transfers c .refusal ≡ 0
+      → PairListed (c .left) (c .right) (nat (c .sender)) (nat (c .receiver)) (transfers c .entries) (c .lists) after
+  pub refused : (transfers c .refusal ≡ 0 → ⊥) → after ≡ c .lists
+
+-- ---- all pairs of an assignment
+
+-- position t is entry i of the pair of sender q and receiver m
+pub record InPair (left right : Section) (t q m i : ℕ) : Type 0 where
+  pub sender : q < layout right .processors
+  pub receiver : m < layout left .processors
+  pub entry : i < length (pairPlaces left right q m)
+  pub position : getD (pairPlaces left right q m) i 0 ≡ t
+
+-- position t stands in exactly one pair, once
+pub record InOnePair (left right : Section) (t : ℕ) : Type 0 where
+  pub sender : ℕ
+  pub receiver : ℕ
+  pub entry : ℕ
+  pub stands : InPair left right t sender receiver entry
+  pub only : (q m i : ℕ) → InPair left right t q m i → (q ≡ sender) × (m ≡ receiver) × (i ≡ entry)
+
+-- f 0 + .. + f (n - 1)
+unfoldable pub sumBelow : ℕ → (ℕ → ℕ) → ℕ
+sumBelow zero f = 0
+sumBelow (suc n) f = sumBelow n f + f n
+
+-- how many entries all pairs have
+unfoldable pub entriesInAll : Section → Section → ℕ
+entriesInAll left right =
+    sumBelow (layout right .processors) (λ q. sumBelow (layout left .processors) (λ m. length (pairPlaces left right q m)))
+
+pub record Assigned (left right : Section) : Type 0 where
+  pub once : (t : ℕ) → t < count left → InOnePair left right t
+  pub all : entriesInAll left right ≡ count left

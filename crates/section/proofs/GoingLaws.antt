@@ -1,0 +1,104 @@
+-- Going on from a position of an accepted section: the numbers fit, and the next place is document 01's, the next position
+-- that the same processor owns.
+use Prim.Native.Nat.{ℕ, suc, _+_, _-_, _*_, _≤_, _<_}
+use mathlib.Core.Path.{_≡_, refl, sym, ap, _∙_}
+use mathlib.Core.Bool.{Bool, true, false, cond}
+use native.Mathlib.Nat.{mul-pos}
+use mathlib.Core.Logic.{_⊎_, inl, inr}
+use native.Mathlib.Omega.{arith}
+use lib.Dec.{ltb}
+use borrow.Author.Tests.{lt-ltb, ltb-false}
+use Rattle.numbers.specs.Search.{passing, headOr}
+use Rattle.numbers.specs.Gcd.{gcd}
+use Rattle.numbers.proofs.Division.{product-le}
+use Rattle.numbers.proofs.SearchLaws.{head-le, passing-same}
+use Rattle.model.specs.declared.Section.{Section}
+use Rattle.model.specs.declared.Steps.{Steps}
+use Rattle.model.specs.declared.Steps.the-variants.{NoStep, OneStep, TwoSteps}
+use Rattle.model.specs.Ownership.{courseCells, columnOf}
+use Rattle.model.specs.Sections.{layout, count, cell, ownsAt}
+use Rattle.model.specs.Steps.{processorIndex, returnIndex, processorStep, returnStep, oneStep, stepsBy, tryBoth, goOn, spread, stepsOf, upward, going, nextPlace}
+use Rattle.model.specs.Steps as document
+use Rattle.model.specs.Questions.{firstNo, ofSection}
+use Rattle.model.proofs.Rests.{le-or-lt}
+use Rattle.model.proofs.WalkTheorem.{Walks, walks, Some, some-steps, next-place-by}
+use Rattle.section.specs.declared.questions.Strided.{Strided}
+use Rattle.section.specs.Strides.{stridedOf, Bounded, ownedAt, stepsIn}
+use Rattle.section.specs.Going.{onFrom, nextBy, nextIn}
+use Rattle.section.proofs.StridedLaws.{course-high, index-inside, indices-rise, indices-fall}
+use Rattle.section.proofs.StridedSections.{cell-at, owned-at}
+
+-- ---- the numbers fit
+
+-- from the first index to that of position t
+pub way-high : (w : Strided) → Bounded w → (t : ℕ) → t < w .count → t * w .stride < 2147483648
+way-high w b t h = go (w .upward) refl
+  where
+    go : (u : Bool) → w .upward ≡ u → t * w .stride < 2147483648
+    go true e = omega (arith, index-inside w b t h, indices-rise w e t, b .sized .size-high)
+    go false e = omega (arith, b .first-inside (omega arith), indices-fall w b e t h, b .sized .size-high)
+
+pub spread-pos : (w : Strided) → Bounded w → 0 < w .layout .stride * w .stride
+spread-pos w b = mul-pos (b .sized .stride-pos) (b .stride-pos)
+
+-- both steps can be added
+abbrev pub Light : Steps → Type 0
+Light NoStep = Unit {0}
+Light (OneStep x) = Unit {0}
+Light (TwoSteps r b) = r .cells + b .cells < 9223372036854775808
+
+pub light : (w : Strided) → Bounded w → Light (stepsIn w)
+unfolding stepsBy processorStep returnStep processorIndex returnIndex
+light w b = go (ltb (w .count) 2) refl (ltb (gcd S M) k)
+  where
+    M : ℕ
+    M = courseCells (w .layout)
+
+    k : ℕ
+    k = w .layout .block
+
+    S : ℕ
+    S = w .layout .stride * w .stride
+
+    few : 2 ≤ w .count → (i : ℕ) → i ≤ M → i * S ≤ 67108864 * 2147483648
+    few h i l = product-le 67108864 2147483648 (omega (arith, course-high (w .layout) (b .sized))) (omega (arith, b .spread-high h))
+
+    go : (t : Bool) → ltb (w .count) 2 ≡ t → (u : Bool)
+        → Light (cond t NoStep (cond u (TwoSteps (processorStep M k S) (returnStep M k S)) (OneStep (oneStep M S))))
+    go true e u = tt
+    go false e true =
+        let two = ltb-false (w .count) 2 e in
+        let i : processorIndex M k S ≤ M = head-le _ 0 M M 1 (omega arith) (omega arith) in
+        let j : returnIndex M k S ≤ M = head-le _ 0 M M 1 (omega arith) (omega arith) in
+        omega (arith, few two (processorIndex M k S) i, few two (returnIndex M k S) j)
+    go false e false = tt
+
+-- ---- the next place
+
+module _ (x : Section) (ok : firstNo (ofSection x) ≡ 0) (t : ℕ) (h : t < count x) where
+  by-steps : (s : Steps) → Some s
+      → onFrom (stridedOf x) t (goOn (upward x) (layout x .block) (columnOf (layout x) (cell x t)) s .cells) ≡ nextBy (stridedOf x) t s
+  unfolding stridedOf
+  by-steps NoStep f = absurd f
+  by-steps (OneStep m) f = refl
+  by-steps (TwoSteps r b) f =
+      ap (λ (c : ℕ). onFrom (stridedOf x) t (tryBoth (upward x) (layout x .block) (columnOf (layout x) c) r b .cells)) (cell-at x ok t h)
+
+  pub next-in : nextPlace x t ≡ nextIn (stridedOf x) t
+  unfolding nextIn stridedOf nextPlace stepsOf stepsBy document.nextBy going spread
+  next-in = go (le-or-lt 2 (count x))
+    where
+      go : (2 ≤ count x) ⊎ (count x < 2) → nextPlace x t ≡ nextIn (stridedOf x) t
+      go (inl two) =
+          next-place-by x ok t h two
+          ∙ by-steps (stepsOf x) (some-steps (count x) (courseCells (layout x)) (layout x .block) (spread x) two)
+      go (inr few) = rw (lt-ltb (count x) 2 few)
+
+  -- it is the next position that the same processor owns, or the count
+  pub next-owned : (q : ℕ) → ownedAt (stridedOf x) q t ≡ true
+      → nextIn (stridedOf x) t ≡ headOr (count x) (passing (ownedAt (stridedOf x) q) (suc t) (count x - suc t))
+  unfolding Walks
+  next-owned q mine =
+      sym next-in ∙ walks x ok q t h (owned-at x ok q t h ∙ mine)
+      ∙ ap (headOr (count x))
+      (passing-same (ownsAt x q) (ownedAt (stridedOf x) q) (count x - suc t) (suc t) (λ u a b. owned-at x ok q u (omega arith)))

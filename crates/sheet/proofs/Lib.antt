@@ -1,0 +1,19 @@
+-- What follows from the definitions, and what the proofs of several functions cite.
+pub mod AllLaws
+pub mod Format
+pub mod WholeLaws
+pub mod DigitLaws
+pub mod NaturalLaws
+pub mod NumberLaws
+pub mod PartLaws
+pub mod SheetLaws
+pub mod AnswerLaws
+pub mod ByteLaws
+pub mod LineLaws
+pub mod RowLaws
+pub mod ReadLaws
+pub mod CasesHold
+pub mod LengthLaws
+pub mod NameLaws
+pub mod SectionLaws
+pub mod UniqueLaws

@@ -1,0 +1,54 @@
+-- `named_at` meets its contract.
+use mathlib.Core.Path.{ap}
+use native.Mathlib.Omega.{arith}
+use Rattle.sheet.specs.Numbers.{natural}
+use Rattle.sheet.specs.Parts.{three}
+use Rattle.sheet.specs.Answers.{naturalFound, lineFound}
+use Rattle.sheet.proofs.AnswerLaws.{only-failed, second-only, known, natural-failed}
+use borrow.Author.Needs.{needs}
+use Rattle.sheet.proofs.part.named_at.Statement.{statement}
+use Rattle.sheet.proofs.part.named_at.Tie as tie
+
+natural-at-requires : tie.Need-natural-at-requires
+natural-at-requires c κs = search needs
+
+enum-known-q : tie.Need-enum-known-q
+enum-known-q c = search needs
+
+enum-told : tie.Need-enum-told
+enum-told c = search needs
+
+natural-place-requires : tie.Need-natural-place-requires
+natural-place-requires c κs = search needs
+
+returns : tie.Need-returns
+returns c =
+    let r = c .before .before .before .natural-at in
+    rw (c .natural-place .ensures)
+    (only-failed (natural 0 _ 32) (λ a. three a 10)
+    (known (natural-failed (r .result) (c .before .before .match .keys2)) (r .ensures)))
+
+three-at-requires : tie.Need-three-at-requires
+three-at-requires c κs = (
+  known (ap naturalFound (c .before .q .given .1))
+      (c .before .before .before .natural-at .ensures) .within,
+  omega arith,
+)
+
+returns-2 : tie.Need-returns-2
+returns-2 c =
+    let c1 = c .before .before in
+    second-only (natural 0 _ 32) (λ a. three a 10) (lineFound (c .three-at .result))
+    (known (ap naturalFound (c1 .q .given .1)) (c1 .before .before .natural-at .ensures)) (c .three-at .ensures)
+
+pub named-at-spec : {M : Type 1} → statement M
+named-at-spec =
+    tie.close
+    (tie.spec
+    natural-at-requires
+    enum-known-q
+    enum-told
+    natural-place-requires
+    returns
+    three-at-requires
+    returns-2)

@@ -1,0 +1,82 @@
+-- `transfers` meets its contract: each case of the answer about the pair has its law.
+use mathlib.Core.Path.{_≡_, sym, ap, _∙_, subst}
+use borrow.Author.Needs.{needs}
+use mir.Syntax.{w64}
+use mir.ValLaws.{toZ-ofZ}
+use Rattle.model.specs.Transfers.{ListsAfter}
+use Rattle.transfer.specs.Pairs.{pairAsked}
+use Rattle.transfer.specs.Answers.{listsOf, callOf, transferredAs}
+use Rattle.transfer.proofs.PairAnswers.{pair-fits}
+use Rattle.transfer.proofs.CallAnswers.{answer-refused, lists-refused, answer-by, lists-by}
+use Rattle.transfer.proofs.transfers.Statement.{statement}
+use Rattle.transfer.proofs.transfers.Tie as tie
+
+ask-pair-requires : tie.Need-ask-pair-requires
+ask-pair-requires c κs = search needs
+
+enum-known-p : tie.Need-enum-known-p
+enum-known-p c = search needs
+
+-- the answer about the pair that was passed
+answered : (c : tie.After-ask-pair) → let s : tie.Start = c .before .before .before .before in
+    c .ask-pair .result ≡ pairAsked (s .args .left) (s .args .right) (s .args .sender) (s .args .receiver)
+answered c =
+    let s = c .before .before .before .before in
+    c .ask-pair .ensures
+    ∙ (λ i.
+    pairAsked (s .args .left) (s .args .right) (toZ-ofZ w64 (s .args .sender) (s .fits .sender) i)
+    (toZ-ofZ w64 (s .args .receiver) (s .fits .receiver) i))
+
+list-pair-requires : tie.Need-list-pair-requires
+list-pair-requires c κs =
+    let arm = c .before .before .before .before in
+    let s = arm .before .before .before .before .before .before in
+    pair-fits (s .args .left) (s .args .right) (s .args .sender) (s .args .receiver) _ (sym (answered (arm .before .before)) ∙ arm .p .given .1)
+
+enum-known-q : tie.Need-enum-known-q
+enum-known-q c = search needs
+
+same-length : tie.Need-same-length
+same-length c = search needs
+
+same-length-2 : tie.Need-same-length-2
+same-length-2 c = search needs
+
+same-length-3 : tie.Need-same-length-3
+same-length-3 c = search needs
+
+returns : tie.Need-returns
+returns c =
+    let listed = c .before .before .before .before .before .before in
+    let arm = listed .before .before .before .before .before in
+    let s = arm .before .before .before .before .before .before in
+    let x = listsOf (s .args .positions .now) (s .args .sent .now) (s .args .received .now) in
+    let by = sym (answered (arm .before .before)) ∙ arm .p .given .1 in (
+      ap transferredAs (listed .list-pair .ensures .0) ∙ answer-by (s .args .left) (s .args .right) (s .args .sender) (s .args .receiver) x _ by,
+      subst (ListsAfter (callOf (s .args .left) (s .args .right) (s .args .sender) (s .args .receiver) x)) (sym (listed .list-pair .ensures .1))
+          (lists-by (s .args .left) (s .args .right) (s .args .sender) (s .args .receiver) x _ by),
+    )
+
+returns-2 : tie.Need-returns-2
+returns-2 c =
+    let arm = c .before in
+    let s = arm .before .before .before .before .before .before in
+    let x = listsOf (s .args .positions .now) (s .args .sent .now) (s .args .received .now) in
+    let by = sym (answered (arm .before .before)) ∙ arm .q .given .1 in (
+      answer-refused (s .args .left) (s .args .right) (s .args .sender) (s .args .receiver) x _ by,
+      lists-refused (s .args .left) (s .args .right) (s .args .sender) (s .args .receiver) x _ by,
+    )
+
+pub transfers-spec : {M : Type 1} → statement M
+transfers-spec =
+    tie.close
+    (tie.spec
+    ask-pair-requires
+    enum-known-p
+    list-pair-requires
+    enum-known-q
+    same-length
+    same-length-2
+    same-length-3
+    returns
+    returns-2)

@@ -1,0 +1,41 @@
+// Transfers of an array assignment left(section) = right(section): the section positions that
+// a sender passes to a receiver, each with its address on the sender and on the receiver. The
+// questions are put in questions.rt; walk.rt walks along the sender's or the receiver's
+// elements, whichever are fewer, and listing.rt writes what is found.
+ghost use mathlib.Core.Path.{_≡_};
+ghost use Rattle.model.specs.Transfers.{transfers, ListsAfter};
+ghost use Rattle.transfer.specs.Answers.{callOf, transferredAs, listsOf};
+use listing::Transferred;
+use listing::list_pair;
+use model::Section;
+use questions::Paired;
+use questions::ask_pair;
+
+pub mod listing;
+pub mod questions;
+pub mod walk;
+
+// The entries of the pair: section positions, sender's addresses and receiver's addresses in
+// three lists. The order of the entries is left open.
+pub fn transfers(
+    left: Section,
+    right: Section,
+    sender: i64,
+    receiver: i64,
+    positions: &mut [u32],
+    sent: &mut [u32],
+    received: &mut [u32],
+) -> Transferred
+    ensures { λ r. ⌜ transferredAs r
+        ≡ transfers (callOf left right sender receiver
+        (listsOf (now (positions .entry)) (now (sent .entry)) (now (received .entry)))) ⌝ }
+    ensures { λ r. ⌜ ListsAfter
+        (callOf left right sender receiver
+        (listsOf (now (positions .entry)) (now (sent .entry)) (now (received .entry))))
+        (listsOf (now (positions .exit)) (now (sent .exit)) (now (received .exit))) ⌝ }
+{
+    match ask_pair(left, right, sender, receiver) {
+        Paired::By(p) => list_pair(p, positions, sent, received),
+        Paired::Refused(q) => Transferred::Refused(q),
+    }
+}

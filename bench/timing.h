@@ -1,4 +1,4 @@
-/* CPU time of a call: the best of several batches. */
+/* CPU time of calls: several ways of doing the same, in turn, each the least of several batches. */
 #ifndef BENCH_TIMING_H
 #define BENCH_TIMING_H
 
@@ -15,36 +15,50 @@ static inline double now(void)
     return (double)t.tv_sec * 1e9 + (double)t.tv_nsec;
 }
 
-/* nanoseconds of so many calls */
+/* nanoseconds per call of so many calls */
 static inline double batch(const void *context, timed_call *call, int64_t calls)
 {
     double start = now();
     for (int64_t j = 0; j < calls; j++)
         call(context, j);
-    return now() - start;
+    return (now() - start) / (double)calls;
 }
 
-/* nanoseconds per call, in the best of several batches of so many calls */
-static inline double best_of_batches(const void *context, timed_call *call, int64_t calls)
+/* how many calls are long for the clock; finding it warms the buffers */
+static inline int64_t calls_of_batch(const void *context, timed_call *call)
 {
-    enum { BATCHES = 7 };
-    double least = batch(context, call, calls);
-    for (int i = 1; i < BATCHES; i++) {
-        double time = batch(context, call, calls);
-        if (time < least)
-            least = time;
-    }
-    return least / (double)calls;
-}
-
-/* the same, in batches that are long for the clock; finding their length warms the buffers */
-static inline double best(const void *context, timed_call *call)
-{
-    const double long_enough = 5e4;
+    const double long_enough = 1e5;
     int64_t calls = 1;
-    while (batch(context, call, calls) < long_enough)
+    while (batch(context, call, calls) * (double)calls < long_enough)
         calls *= 2;
-    return best_of_batches(context, call, calls);
+    return calls;
+}
+
+/* nanoseconds per call of each way, 0 for a way that there is not; a call that takes long is made twice only */
+static inline void time_ways(const void *context, timed_call *const ways[], int count, double times[])
+{
+    enum { ROUNDS = 11, MOST_WAYS = 8 };
+    const double long_call = 2e6;
+    int64_t calls[MOST_WAYS];
+    for (int way = 0; way < count; way++) {
+        calls[way] = ways[way] ? calls_of_batch(context, ways[way]) : 0;
+        times[way] = ways[way] ? batch(context, ways[way], calls[way]) : 0;
+    }
+    for (int round = 1; round < ROUNDS; round++)
+        for (int way = 0; way < count; way++) {
+            if (!ways[way] || times[way] > long_call)
+                continue;
+            double time = batch(context, ways[way], calls[way]);
+            if (time < times[way])
+                times[way] = time;
+        }
+}
+
+static inline double time_one(const void *context, timed_call *call)
+{
+    double time;
+    time_ways(context, &call, 1, &time);
+    return time;
 }
 
 #endif

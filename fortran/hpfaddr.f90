@@ -1,5 +1,5 @@
-! hpfaddr: owners, local addresses and sections of one-dimensional block-cyclic
-! arrays.
+! hpfaddr: owners, local addresses, sections and assignments of one-dimensional
+! block-cyclic arrays.
 !
 ! A mapping is six numbers: a template of `cells` cells (1 to 2147483647) is
 ! dealt to `processors` processors (1 to 1024) in blocks of `block` cells (1 to
@@ -30,26 +30,35 @@
 ! Look at each refusal first: the place 0 of a refused call is no place. The list
 ! needs one entry or more, or the loop does not end.
 !
+! In an assignment left(section) = right(section), of two sections with the same
+! count, the element at each position goes from a sender, its owner on the right,
+! to a receiver, its owner on the left. hpf_transfers lists the positions of one
+! sender and one receiver, with the addresses on both.
+!
 ! Every call returns, whatever numbers it is given; it keeps no state, and a fill
-! writes only the list it is lent, so any number of threads may call them at
-! once, each with its own list. include/hpfaddr.h says what is guaranteed.
+! or a transfer writes only the lists it is lent, so any number of threads may
+! call them at once, each with its own lists. include/hpfaddr.h says what is
+! guaranteed.
 module hpfaddr
   use, intrinsic :: iso_c_binding, only: c_int32_t, c_int64_t, c_size_t, c_ptr, c_loc, c_null_ptr
   implicit none
   private
 
-  public :: hpf_owned, hpf_found, hpf_counted, hpf_steps, hpf_placed, hpf_filled
+  public :: hpf_owned, hpf_found, hpf_counted, hpf_steps, hpf_placed, hpf_filled, hpf_transferred
   public :: hpf_ownership, hpf_going_back, hpf_local_count
   public :: hpf_section_steps, hpf_first_place, hpf_fill, hpf_fill_words
+  public :: hpf_transfers
   public :: hpf_accepted, hpf_refused_cells, hpf_refused_processors, hpf_refused_block
   public :: hpf_refused_alignment, hpf_refused_size, hpf_refused_triplet, hpf_refused_section
   public :: hpf_refused_processor_number, hpf_refused_element, hpf_refused_place
-  public :: hpf_refused_quota
+  public :: hpf_refused_quota, hpf_refused_counts, hpf_refused_room
   public :: hpf_least_quota, hpf_largest_quota
 
   ! The component `refusal` of an answer: 0, or the number of the first question
   ! answered no, of those that concern the call; every other component is then 0,
-  ! and a lent list is left as it was.
+  ! but for what 13 adds, and a lent list is left as it was. hpf_transfers asks 1
+  ! to 7 of the left section, then 1 to 7 of the right one, 8 of the sender, 8 of
+  ! the receiver, 12 and 13.
   integer(c_int32_t), parameter :: hpf_accepted = 0
   ! is cells in its range?
   integer(c_int32_t), parameter :: hpf_refused_cells = 1
@@ -73,6 +82,10 @@ module hpfaddr
   integer(c_int32_t), parameter :: hpf_refused_place = 10
   ! is the quota in its range?
   integer(c_int32_t), parameter :: hpf_refused_quota = 11
+  ! have both sections the same count?
+  integer(c_int32_t), parameter :: hpf_refused_counts = 12
+  ! has each of the three lists at least as many entries as the pair?
+  integer(c_int32_t), parameter :: hpf_refused_room = 13
 
   ! The quotas of a fill. A fill goes on only while it has the least of them left.
   integer(c_int64_t), parameter :: hpf_least_quota = 3
@@ -128,6 +141,14 @@ module hpfaddr
     integer(c_int32_t) :: tries
     integer(c_int32_t) :: place
   end type hpf_filled
+
+  ! What a transfer did: how many entries the pair has, or, with refusal 13, how
+  ! many it needs room for.
+  type, bind(c) :: hpf_transferred
+    integer(c_int32_t) :: refusal
+    integer(c_int32_t) :: entries
+    integer(c_int32_t) :: needed
+  end type hpf_transferred
 
   interface
 
@@ -194,6 +215,30 @@ module hpfaddr
       integer(c_size_t), value :: list_bytes
       type(hpf_filled) :: filled
     end function hpf_fill
+
+    ! Writes the entries of a sender, 0 to right_processors - 1, and a receiver, 0
+    ! to left_processors - 1: all section positions whose element the sender owns on
+    ! the right and the receiver owns on the left, each once, with the element's
+    ! address on the sender in `sent` and on the receiver in `received`. Their order
+    ! is left open in this edition. Each list has as many elements as the number
+    ! after it says; those after the entries written stay.
+    function hpf_transfers(left_cells, left_processors, left_block, left_stride, left_offset, &
+        left_size, left_lower, left_upper, left_step, right_cells, right_processors, right_block, &
+        right_stride, right_offset, right_size, right_lower, right_upper, right_step, &
+        sender, receiver, positions, positions_entries, sent, sent_entries, &
+        received, received_entries) result(transferred) bind(c, name='hpf_transfers')
+      import :: c_int32_t, c_int64_t, c_size_t, hpf_transferred
+      integer(c_int64_t), value :: left_cells, left_processors, left_block
+      integer(c_int64_t), value :: left_stride, left_offset, left_size
+      integer(c_int64_t), value :: left_lower, left_upper, left_step
+      integer(c_int64_t), value :: right_cells, right_processors, right_block
+      integer(c_int64_t), value :: right_stride, right_offset, right_size
+      integer(c_int64_t), value :: right_lower, right_upper, right_step
+      integer(c_int64_t), value :: sender, receiver
+      integer(c_int32_t), intent(inout) :: positions(*), sent(*), received(*)
+      integer(c_size_t), value :: positions_entries, sent_entries, received_entries
+      type(hpf_transferred) :: transferred
+    end function hpf_transfers
 
   end interface
 

@@ -1,6 +1,6 @@
 /*
- * hpfaddr.h: owners, local addresses and sections of one-dimensional
- * block-cyclic arrays.
+ * hpfaddr.h: owners, local addresses, sections and assignments of
+ * one-dimensional block-cyclic arrays.
  *
  * A template is a row of cells, dealt to processors in blocks, as CYCLIC(k) of
  * HPF 2.0 says. An array is aligned to the template. A mapping is six numbers:
@@ -49,17 +49,24 @@
  * Look at each refusal first: the place 0 of a refused call is no place. The
  * list needs room for one address or more, or the loop does not end.
  *
+ * In an assignment left(section) = right(section), of two sections with the same
+ * count, the element at each position goes from a sender, its owner on the
+ * right, to a receiver, its owner on the left. The positions of one sender and
+ * one receiver are the entries of their pair. Over all pairs each position stands
+ * in exactly one, once.
+ *
  * What is guaranteed:
  * - Every call returns, whatever numbers it is given.
  * - Each field of each answer and each byte of a lent list afterwards, refusals
- *   too, is proved to equal its definition.
+ *   too, is proved to equal its definition; of the entries of a pair, whose order
+ *   is left open, that each stands in the lists once.
  * - Ownership and going back undo each other.
  * - Fills one after another, from the first place on, give each element of the
  *   processor's list once and in order, whatever their quotas and lists, also
  *   with refused fills between them.
- * - The calls keep no state. A fill writes the list that it is lent, and no call
- *   touches any other memory of the caller's, so any number of threads may call
- *   them at once; two fills at once need two lists.
+ * - The calls keep no state. A fill writes the list that it is lent, a transfer
+ *   its three, and no call touches any other memory of the caller's, so any number
+ *   of threads may call them at once, each with lists of its own.
  */
 #ifndef HPFADDR_H
 #define HPFADDR_H
@@ -74,8 +81,10 @@ extern "C" {
 /*
  * The field refusal of an answer. A call asks these questions in rising order,
  * those that concern its arguments, and stops at the first one answered no.
- * The refusal is the number of that question, every other field is 0, and a lent
- * list is left as it was.
+ * hpf_transfers asks 1 to 7 of the left section, then 1 to 7 of the right one, 8
+ * of the sender, 8 of the receiver, 12 and 13. The refusal is the number of that
+ * question, every other field is 0, but for what 13 adds, and a lent list is left
+ * as it was.
  */
 enum {
     HPF_ACCEPTED = 0,
@@ -89,7 +98,9 @@ enum {
     HPF_REFUSED_PROCESSOR_NUMBER = 8, /* is the processor from 0 to processors - 1? */
     HPF_REFUSED_ELEMENT = 9,          /* is there an element of this index, or at this address? */
     HPF_REFUSED_PLACE = 10,           /* is the place the count, or a position whose element the processor owns? */
-    HPF_REFUSED_QUOTA = 11            /* is the quota in its range? */
+    HPF_REFUSED_QUOTA = 11,           /* is the quota in its range? */
+    HPF_REFUSED_COUNTS = 12,          /* have both sections the same count? */
+    HPF_REFUSED_ROOM = 13             /* has each of the three lists at least as many entries as the pair? */
 };
 
 /* The quotas of a fill. A fill goes on only while it has the least of them left. */
@@ -157,6 +168,13 @@ typedef struct hpf_filled {
     int32_t place;   /* where the next fill goes on, or the count at the end */
 } hpf_filled;
 
+/* What a transfer did. */
+typedef struct hpf_transferred {
+    int32_t refusal; /* 0, or 1 to 8, or 12, or 13 */
+    int32_t entries; /* of the pair, written from each list's start on */
+    int32_t needed;  /* with refusal 13, how many entries the pair has; else 0 */
+} hpf_transferred;
+
 /* The owner and the local address of the element with this index, 0 to size - 1. */
 hpf_owned hpf_ownership(int64_t cells, int64_t processors, int64_t block,
                         int64_t stride, int64_t offset, int64_t size,
@@ -204,6 +222,30 @@ hpf_filled hpf_fill(int64_t cells, int64_t processors, int64_t block,
                     int64_t lower, int64_t upper, int64_t step,
                     int64_t processor, int64_t place, int64_t quota,
                     uint8_t *list, size_t list_bytes);
+
+/*
+ * Writes the entries of a sender, 0 to right_processors - 1, and a receiver, 0 to
+ * left_processors - 1: all section positions whose element the sender owns on the
+ * right and the receiver owns on the left, each once. Entry i is positions[i],
+ * with the element's address on the sender in sent[i] and on the receiver in
+ * received[i]. The order of the entries is left open in this edition.
+ *
+ * Each list is an array of int32_t, aligned as such, with as many elements as the
+ * number beside it says; no two of them may overlap. Elements after the entries
+ * written stay. No other thread may use the lists meanwhile. A list may be NULL
+ * only if its number is 0. To learn how many entries there are, lend no lists: the
+ * answer is refusal 0 if there are none, else 13 and the number needed.
+ */
+hpf_transferred hpf_transfers(int64_t left_cells, int64_t left_processors, int64_t left_block,
+                              int64_t left_stride, int64_t left_offset, int64_t left_size,
+                              int64_t left_lower, int64_t left_upper, int64_t left_step,
+                              int64_t right_cells, int64_t right_processors, int64_t right_block,
+                              int64_t right_stride, int64_t right_offset, int64_t right_size,
+                              int64_t right_lower, int64_t right_upper, int64_t right_step,
+                              int64_t sender, int64_t receiver,
+                              int32_t *positions, size_t positions_entries,
+                              int32_t *sent, size_t sent_entries,
+                              int32_t *received, size_t received_entries);
 
 #ifdef __cplusplus
 }

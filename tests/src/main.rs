@@ -1,5 +1,6 @@
-//! Compares the library with a slow enumeration and other ways of counting.
-//! Says what was compared, and stops at the first difference.
+//! Compares the library, and the program `list`, with a slow enumeration and
+//! other ways of counting. Says what was compared, and stops at the first
+//! difference. The argument `calls` or `sheets` leaves out the other.
 
 mod answers;
 mod checks_by_hand;
@@ -10,23 +11,33 @@ mod extreme_sections;
 mod faults;
 mod fill_chains;
 mod generator;
+mod guarded_list;
 mod library;
 mod memory;
 mod processor_list;
 mod questions;
 mod random_mappings;
 mod random_sections;
+mod random_transfers;
 mod section_answers;
 mod section_comparison;
 mod section_enumeration;
 mod section_library;
 mod section_search;
 mod sections_by_hand;
+mod sheets;
 mod small_mappings;
 mod small_sections;
+mod small_transfers;
 mod special_numbers;
 mod special_sections;
+mod special_transfers;
+mod transfer_answers;
+mod transfer_comparison;
+mod transfer_enumeration;
+mod transfer_library;
 
+use std::env;
 use std::process::ExitCode;
 
 use comparison::{Comparison, Difference};
@@ -34,7 +45,7 @@ use comparison::{Comparison, Difference};
 /// Compares one kind of calls, and says in words which.
 type Group = fn(&mut Comparison) -> Result<String, Difference>;
 
-const GROUPS: [Group; 18] = [
+const CALLS: [Group; 23] = [
     checks_by_hand::compare_limits,
     small_mappings::compare_countings,
     small_mappings::compare_arrays,
@@ -53,10 +64,15 @@ const GROUPS: [Group; 18] = [
     random_sections::compare_short_chains,
     random_sections::compare_long_chains,
     random_sections::compare_sections,
+    small_transfers::compare_assignments,
+    special_transfers::compare_combinations,
+    special_transfers::compare_exchanges,
+    random_transfers::compare_short_assignments,
+    random_transfers::compare_long_assignments,
 ];
 
 fn main() -> ExitCode {
-    match compare_groups() {
+    match groups().and_then(compare_groups) {
         Ok(comparisons) => {
             println!("tests: {comparisons} comparisons, all equal");
             ExitCode::SUCCESS
@@ -68,9 +84,19 @@ fn main() -> ExitCode {
     }
 }
 
-fn compare_groups() -> Result<u64, Difference> {
+fn groups() -> Result<Vec<Group>, Difference> {
+    let arguments: Vec<String> = env::args().skip(1).collect();
+    match arguments.join(" ").as_str() {
+        "" => Ok(CALLS.into_iter().chain(sheets::GROUPS).collect()),
+        "calls" => Ok(CALLS.to_vec()),
+        "sheets" => Ok(sheets::GROUPS.to_vec()),
+        other => Err(Difference(format!("there is no part {other:?}"))),
+    }
+}
+
+fn compare_groups(groups: Vec<Group>) -> Result<u64, Difference> {
     let mut total = 0;
-    for group in GROUPS {
+    for group in groups {
         let mut comparison = Comparison::default();
         let words = group(&mut comparison)?;
         println!("{words}: {} comparisons", comparison.comparisons);

@@ -4,6 +4,7 @@
 
 use crate::library::Mapping;
 use crate::section_library::{Fill, Triplet};
+use crate::transfer_library::Transfer;
 
 const LARGEST: i128 = 2_147_483_647;
 
@@ -34,7 +35,7 @@ fn of_section(m: &Mapping, triplet: &Triplet) -> i32 {
     if ![lower, upper, step].into_iter().all(is_in_range) || step == 0 {
         return 6;
     }
-    let count = (upper - lower + step) / step;
+    let count = count(triplet);
     let last = lower + (count - 1) * step;
     let elements = 0..i128::from(m.size);
     first_no(&[(
@@ -56,14 +57,8 @@ pub fn of_element(elements: i64, number: i64) -> i32 {
 
 /// Question 10, of a section and a processor that pass the questions before it.
 fn of_place(fill: &Fill) -> i32 {
-    let [lower, upper, step, place] = [
-        fill.triplet.lower,
-        fill.triplet.upper,
-        fill.triplet.step,
-        fill.place,
-    ]
-    .map(i128::from);
-    let count = ((upper - lower + step) / step).max(0);
+    let [lower, step, place] = [fill.triplet.lower, fill.triplet.step, fill.place].map(i128::from);
+    let count = count(&fill.triplet);
     let owner = || fill.m.array().owner((lower + place * step) as u64);
     let is_owned = || (0..count).contains(&place) && owner() == fill.processor as u64;
     first_no(&[(10, place == count || is_owned())])
@@ -99,6 +94,35 @@ pub fn of_fill(fill: &Fill) -> i32 {
         },
         refusal => refusal,
     }
+}
+
+/// Questions 1 to 7 of the left, 1 to 7 of the right, 8 of the sender, 8 of the
+/// receiver, and 12. Question 13 is left to who knows the entries.
+pub fn of_transfer(transfer: &Transfer) -> i32 {
+    let Transfer { left, right, .. } = transfer;
+    match of_mapping_and_section(&left.m, &left.triplet) {
+        0 => match of_mapping_and_section(&right.m, &right.triplet) {
+            0 => of_ends(transfer),
+            refusal => refusal,
+        },
+        refusal => refusal,
+    }
+}
+
+/// Questions 8, 8 and 12, of sides that pass the questions before them.
+fn of_ends(transfer: &Transfer) -> i32 {
+    let Transfer { left, right, .. } = transfer;
+    first_no(&[
+        (8, (0..right.m.processors).contains(&transfer.sender)),
+        (8, (0..left.m.processors).contains(&transfer.receiver)),
+        (12, count(&left.triplet) == count(&right.triplet)),
+    ])
+}
+
+/// The count of a section that passes question 6.
+fn count(triplet: &Triplet) -> i128 {
+    let [lower, upper, step] = [triplet.lower, triplet.upper, triplet.step].map(i128::from);
+    ((upper - lower + step) / step).max(0)
 }
 
 fn first_no(answers: &[(i32, bool)]) -> i32 {

@@ -92,7 +92,7 @@ fn random_mapping_of(generator: &mut Generator, kind: &Kind) -> Mapping {
 
 /// An accepted section from one random element towards another. Its upper bound
 /// goes less than a step beyond its last element. Now and then it is empty.
-fn random_triplet(generator: &mut Generator, size: u64) -> Triplet {
+pub fn random_triplet(generator: &mut Generator, size: u64) -> Triplet {
     let lower = generator.below(size) as i64;
     let towards = generator.below(size) as i64;
     let length = match generator.below(2) {

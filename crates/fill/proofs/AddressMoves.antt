@@ -3,6 +3,7 @@
 use Prim.Native.Nat.{ℕ, _+_, _-_, _*_, _/_, _%_, _<_}
 use mathlib.Core.Path.{_≡_, sym, ap, _∙_, subst}
 use mathlib.Core.Bool.{Bool, true, false}
+use mathlib.Core.Logic.{_⊎_, inl, inr, ⊎-elim}
 use native.Mathlib.Nat.{div-add-mod', add-mod, add-mul-mod-self-right, eq-of-mul-eq-mul-right}
 use native.Mathlib.Omega.{arith}
 use lib.Dec.{eqb}
@@ -20,7 +21,8 @@ use Rattle.model.proofs.SectionLaws.{Moved, index-moved, cells-moved}
 use Rattle.model.proofs.CellOwners.{course-pos, owner-rest, column-lt, split}
 use Rattle.mapping.proofs.CellLaws.{cells, rank-direct}
 use Rattle.fill.specs.SectionMoves.{onWay, columnAt}
-use Rattle.fill.proofs.TallyLaws.{tally-gap, tally-window, tally-period}
+use Rattle.fill.proofs.TallyLaws.{tally-gap, tally-period}
+use Rattle.fill.proofs.ColumnClasses.{classes-alike}
 
 -- ---- cells
 
@@ -41,22 +43,6 @@ module _ (l : Layout) (p-pos : 0 < l .processors) (k-pos : 0 < l .block) where
   owner-again c d =
       owner-rest l p-pos k-pos (c + d * courseCells l) ∙ ap (λ (z : ℕ). z / l .block) (add-mul-mod-self-right c d (courseCells l))
       ∙ sym (owner-rest l p-pos k-pos c)
-
-  -- cells with the same rest are followed alike
-  owner-alike : (c c′ n : ℕ) → c % courseCells l ≡ c′ % courseCells l → cellOwner l (c + n) ≡ cellOwner l (c′ + n)
-  owner-alike c c′ n e = at c ∙ ap (λ (z : ℕ). (z + n % courseCells l) % courseCells l / l .block) e ∙ sym (at c′)
-    where
-      at : (z : ℕ) → cellOwner l (z + n) ≡ (z % courseCells l + n % courseCells l) % courseCells l / l .block
-      at z = owner-rest l p-pos k-pos (z + n) ∙ ap (λ (y : ℕ). y / l .block) (add-mod z n (courseCells l))
-
-  -- and so have one owner and one column
-  rest-same : (c c′ : ℕ) → cellOwner l c ≡ cellOwner l c′ → columnOf l c ≡ columnOf l c′ → c % courseCells l ≡ c′ % courseCells l
-  rest-same c c′ o e = omega (arith, split l p-pos k-pos c, split l p-pos k-pos c′, ap (λ (n : ℕ). n * l .block) o)
-
--- columns that are the same in walking direction are the same
-same-way : (up : Bool) (k a b : ℕ) → a < k → b < k → onWay up k a ≡ onWay up k b → a ≡ b
-same-way true k a b h l e = e
-same-way false k a b h l e = omega arith
 
 -- ---- an accepted section
 module _ (x : Section) (ok : firstNo (ofSection x) ≡ 0) (q : ℕ) where
@@ -91,17 +77,6 @@ module _ (x : Section) (ok : firstNo (ofSection x) ≡ 0) (q : ℕ) where
       omega (arith, e) in
       ap (λ (y : ℕ). eqb (cellOwner (layout x) y) q) z
       ∙ ap (λ (y : ℕ). eqb y q) (owner-again (layout x) p-pos k-pos (layout x .stride * j + layout x .offset) c)
-
-  -- the test goes on alike from positions of the processor in one column
-  alike : (t t′ : ℕ) → ownsAt x q t ≡ true → ownsAt x q t′ ≡ true → columnAt x t ≡ columnAt x t′ → (j : ℕ) → test (index x t + j) ≡ test (index x t′ + j)
-  unfolding owns ownerOf cellOf cell columnAt
-  alike t t′ o o′ c j =
-      let k = same-way (upward x) (layout x .block) _ _ (column-lt (layout x) p-pos k-pos (cell x t)) (column-lt (layout x) p-pos k-pos (cell x t′)) c in
-      let r = rest-same (layout x) p-pos k-pos (cell x t) (cell x t′) (owned t o ∙ sym (owned t′ o′)) k in
-      let on : (i : ℕ) → layout x .stride * (i + j) + layout x .offset ≡ layout x .stride * i + layout x .offset + layout x .stride * j = λ i. omega arith in
-      ap (λ (y : ℕ). eqb (cellOwner (layout x) y) q) (on (index x t))
-      ∙ ap (λ (y : ℕ). eqb y q) (owner-alike (layout x) p-pos k-pos (cell x t) (cell x t′) (layout x .stride * j) r)
-      ∙ sym (ap (λ (y : ℕ). eqb (cellOwner (layout x) y) q) (on (index x t′)))
 
   -- ---- alignment stride 1
   direct : layout x .stride ≡ 1 → (t : ℕ) → ownsAt x q t ≡ true
@@ -164,17 +139,32 @@ module _ (x : Section) (ok : firstNo (ofSection x) ≡ 0) (q : ℕ) where
       go true i i′ h = ap (tally test) h ∙ tally-period test i (n * natAbs (x .triplet .stride)) (again n c e)
       go false i i′ h = ap (tally test) h ∙ tally-period test i′ (n * natAbs (x .triplet .stride)) (again n c e)
 
-  -- ---- any strides: from the same column, n positions on in the same column, the addresses move alike
-  pub columns-alike : (t t′ n : ℕ) → t + n < count x → t′ + n < count x
-      → ownsAt x q t ≡ true → ownsAt x q t′ ≡ true → ownsAt x q (t + n) ≡ true → ownsAt x q (t′ + n) ≡ true
-      → columnAt x t ≡ columnAt x t′ → columnAt x (t + n) ≡ columnAt x (t′ + n) → address x (t + n) + address x t′ ≡ address x (t′ + n) + address x t
-  columns-alike t t′ n l l′ o o′ p p′ c c′ =
-      rw (address-is t o, address-is t′ o′, address-is (t + n) p, address-is (t′ + n) p′)
-      (go (upward x) (index-moved x ok t n l) (index-moved x ok t′ n l′))
-    where
-      go : (up : Bool) → Moved up (index x t) (index x (t + n)) (n * natAbs (x .triplet .stride))
-          → Moved up (index x t′) (index x (t′ + n)) (n * natAbs (x .triplet .stride))
-          → tally test (index x (t + n)) + tally test (index x t′) ≡ tally test (index x (t′ + n)) + tally test (index x t)
-      go true h h′ = rw (h, h′) (tally-window test (index x t) (index x t′) (n * natAbs (x .triplet .stride)) (alike t t′ o o′ c))
-      go false h h′ =
-          omega (arith, ap (tally test) h, ap (tally test) h′, tally-window test (index x (t + n)) (index x (t′ + n)) (n * natAbs (x .triplet .stride)) (alike (t + n) (t′ + n) p p′ c′))
+  -- ---- any strides: from columns that lie whole alignment strides apart, by n positions that go on alike in columns
+  module _ (t t′ n j : ℕ) (l : t + n < count x) (l′ : t′ + n < count x) (o : ownsAt x q t ≡ true) (o′ : ownsAt x q t′ ≡ true)
+      (p : ownsAt x q (t + n) ≡ true) (p′ : ownsAt x q (t′ + n) ≡ true) where
+    pub strides-alike : (columnAt x t′ ≡ columnAt x t + layout x .stride * j) ⊎ (columnAt x t ≡ columnAt x t′ + layout x .stride * j)
+        → columnAt x (t + n) + columnAt x t′ ≡ columnAt x (t′ + n) + columnAt x t → address x (t + n) + address x t′ ≡ address x (t′ + n) + address x t
+    unfolding columnAt ownsAt cell
+    strides-alike apart even =
+        rw (address-is t o, address-is t′ o′, address-is (t + n) p, address-is (t′ + n) p′)
+        (go (upward x) (index-moved x ok t n l) (index-moved x ok t′ n l′) apart even)
+      where
+        -- columns, of the processor's elements
+        column : ℕ → ℕ
+        column u = columnOf (layout x) (cell x u)
+
+        low : (u : ℕ) → column u < layout x .block
+        low u = column-lt (layout x) p-pos k-pos (cell x u)
+
+        go : (up : Bool) → Moved up (index x t) (index x (t + n)) (n * natAbs (x .triplet .stride))
+            → Moved up (index x t′) (index x (t′ + n)) (n * natAbs (x .triplet .stride))
+            → (onWay up (layout x .block) (column t′) ≡ onWay up (layout x .block) (column t) + layout x .stride * j)
+            ⊎ (onWay up (layout x .block) (column t) ≡ onWay up (layout x .block) (column t′) + layout x .stride * j)
+            → onWay up (layout x .block) (column (t + n)) + onWay up (layout x .block) (column t′)
+            ≡ onWay up (layout x .block) (column (t′ + n)) + onWay up (layout x .block) (column t)
+            → tally test (index x (t + n)) + tally test (index x t′) ≡ tally test (index x (t′ + n)) + tally test (index x t)
+        go true h h′ a e = classes-alike (layout x) p-pos k-pos q _ _ _ _ (n * natAbs (x .triplet .stride)) j h h′ o o′ p p′ a e
+        go false h h′ a e =
+            let turned : (column (t′ + n) ≡ column (t + n) + layout x .stride * j) ⊎ (column (t + n) ≡ column (t′ + n) + layout x .stride * j) =
+            ⊎-elim (λ z. inr (omega (arith, low t, low t′, low (t + n), low (t′ + n)))) (λ z. inl (omega (arith, low t, low t′, low (t + n), low (t′ + n)))) a in
+            omega (arith, classes-alike (layout x) p-pos k-pos q _ _ _ _ (n * natAbs (x .triplet .stride)) j h h′ p p′ o o′ turned (omega (arith, low t, low t′, low (t + n), low (t′ + n))))

@@ -1,11 +1,14 @@
--- Along an accepted section's walk the address moves by what depends on the column alone, so that moves can be learnt.
+-- Along an accepted section's walk the address moves by what depends on the step and on the column's rest by the period, so
+-- that moves can be learnt.
 -- Assumes nothing.
-use Prim.Native.Nat.{ℕ, _+_, _-_, _*_, _≤_, _<_}
+use Prim.Native.Nat.{ℕ, _+_, _-_, _*_, _/_, _%_, _≤_, _<_}
 use mathlib.Core.Path.{_≡_, refl, sym, ap, _∙_, subst}
-use mathlib.Core.Bool.{Bool, true, false, true≢false}
-use native.Mathlib.Nat.{zero-add, le-mul-of-pos-right}
+use mathlib.Core.Bool.{Bool, true, false, true≢false, cond}
+use mathlib.Core.Logic.{_⊎_, inl, inr, ⊎-elim}
+use native.Mathlib.Nat.{zero-add, le-mul-of-pos-right, mod-eq-of-lt, div-add-mod'}
 use native.Mathlib.Decide.{decLt}
 use native.Mathlib.Omega.{arith}
+use lib.Dec.{ltb}
 use lib.IntN.{natAbs}
 use Rattle.model.specs.declared.Section.{Section}
 use Rattle.model.specs.Ownership.{ownerOf, rank}
@@ -15,19 +18,30 @@ use Rattle.model.specs.Questions.{firstNo, ofSection}
 use Rattle.model.specs.Calls.{walkOf}
 use Rattle.model.proofs.QuestionLaws.{accepted}
 use Rattle.model.proofs.SectionLaws.{Moved, index-moved, index-lt}
+use Rattle.model.proofs.Rests.{le-or-lt}
 use Rattle.fill.specs.declared.moves.Moves.{Moves}
 use Rattle.fill.specs.declared.moves.State.{State}
-use Rattle.fill.specs.Moving.{moveFrom}
+use Rattle.fill.specs.Moving.{moveFrom, Small}
 use Rattle.fill.specs.Driving.{Stands}
 use Rattle.fill.specs.SectionMoves.{columnAt, StandsAt, movesOf, elementsOf}
 use Rattle.fill.specs.Starting.{Evened}
-use Rattle.fill.specs.Learning.{shifted, elementAt, addressAt, Placed, Even}
-use Rattle.fill.proofs.PaceLaws.{paces, stands-in}
-use Rattle.fill.proofs.AddressMoves.{columns-alike}
+use Rattle.fill.specs.Learning.{shifted, elementAt, addressAt, Placed, periodOf, Even}
+use Rattle.fill.proofs.MoveLaws.{places-alike, columns-alike}
+use Rattle.fill.proofs.PaceLaws.{column-low, paces, stands-in}
+use Rattle.fill.proofs.AddressMoves.{strides-alike}
 
 moved-shifted : (up : Bool) (i j n : ℕ) → Moved up i j n → shifted up i n ≡ j
 moved-shifted true i j n e = sym e
 moved-shifted false i j n e = omega arith
+
+-- numbers with one rest by a
+strides-between : (a c d : ℕ) → c % a ≡ d % a → (j : ℕ) × ((d ≡ c + a * j) ⊎ (c ≡ d + a * j))
+strides-between a c d e = ⊎-elim (λ h. (d / a - c / a, inl (up c d e h))) (λ h. (c / a - d / a, inr (up d c (sym e) (omega arith)))) (le-or-lt (c / a) (d / a))
+  where
+    up : (c d : ℕ) → c % a ≡ d % a → c / a ≤ d / a → d ≡ c + a * (d / a - c / a)
+    up c d e h =
+        let s : c / a + (d / a - c / a) ≡ d / a = omega arith in
+        omega (arith, div-add-mod' c a, div-add-mod' d a, ap (λ (z : ℕ). z * a) s)
 
 module _ (x : Section) (ok : firstNo (ofSection x) ≡ 0) where
   from-first : (t : ℕ) → t < count x → Moved (upward x) (index x 0) (index x t) (t * natAbs (x .triplet .stride))
@@ -72,10 +86,21 @@ module _ (x : Section) (ok : firstNo (ofSection x) ≡ 0) where
       low true e t h = absurd (true≢false e)
       low false e t h = omega arith
 
+  -- columns with one rest by the period lie whole alignment strides apart
+  apart : (c d : ℕ) → c < layout x .block → d < layout x .block → c % periodOf (elementsOf x) ≡ d % periodOf (elementsOf x)
+      → (j : ℕ) × ((d ≡ c + layout x .stride * j) ⊎ (c ≡ d + layout x .stride * j))
+  unfolding periodOf
+  apart c d h l = go (ltb (layout x .stride) (layout x .block))
+    where
+      go : (b : Bool) → c % cond b (layout x .stride) (layout x .block) ≡ d % cond b (layout x .stride) (layout x .block)
+          → (j : ℕ) × ((d ≡ c + layout x .stride * j) ⊎ (c ≡ d + layout x .stride * j))
+      go true e = strides-between (layout x .stride) c d e
+      go false e = (0, inl (omega (arith, mod-eq-of-lt h, mod-eq-of-lt l)))
+
   -- the walk of each processor q
-  pub even : (near far both q : ℕ) → Evened x q (movesOf x near far both)
+  pub even : (near far both q : ℕ) → Small (movesOf x near far both) → Evened x q (movesOf x near far both)
   unfolding walkOf paces
-  even near far both q =
+  even near far both q small =
       record {
         even = record { paces = paces x ok near far both q; address = λ t h o. address-is t h; alike = both-move };
         stands = stands-in x ok near far both q;
@@ -90,11 +115,20 @@ module _ (x : Section) (ok : firstNo (ofSection x) ≡ 0) where
           let g : t + moveFrom (movesOf x near far both) (columnAt x t) .places < count x = rw e l in
           rw (← e) (p .same t h o g, p .columns t h o g)
 
-      both-move : (t u : ℕ) → t < count x → u < count x → ownsAt x q t ≡ true → ownsAt x q u ≡ true → columnAt x t ≡ columnAt x u
-          → t + moveFrom (movesOf x near far both) (columnAt x t) .places < count x → u + moveFrom (movesOf x near far both) (columnAt x t) .places < count x
+      both-move : (t u : ℕ) → t < count x → u < count x → ownsAt x q t ≡ true → ownsAt x q u ≡ true
+          → moveFrom (movesOf x near far both) (columnAt x t) .tries ≡ moveFrom (movesOf x near far both) (columnAt x u) .tries
+          → columnAt x t % periodOf (elementsOf x) ≡ columnAt x u % periodOf (elementsOf x)
+          → t + moveFrom (movesOf x near far both) (columnAt x t) .places < count x → u + moveFrom (movesOf x near far both) (columnAt x u) .places < count x
           → address x (t + moveFrom (movesOf x near far both) (columnAt x t) .places) + address x u
-          ≡ address x (u + moveFrom (movesOf x near far both) (columnAt x t) .places) + address x t
-      both-move t u h l o o′ e g g′ =
+          ≡ address x (u + moveFrom (movesOf x near far both) (columnAt x u) .places) + address x t
+      both-move t u h l o o′ e r g g′ =
+          let m : Moves = movesOf x near far both in
+          let same = places-alike m (columnAt x t) (columnAt x u) e in
+          let even = columns-alike m (columnAt x t) (columnAt x u) e (small .down) in
           let a = leads (columnAt x t) t h o refl g in
-          let b = leads (columnAt x t) u l o′ (sym e) g′ in
-          columns-alike x ok q t u (moveFrom (movesOf x near far both) (columnAt x t) .places) g g′ o o′ (a .0) (b .0) e (a .1 ∙ sym (b .1))
+          let b = leads (columnAt x u) u l o′ refl g′ in
+          let on : moveFrom m (columnAt x t) .column + columnAt x u ≡ columnAt x (u + moveFrom m (columnAt x u) .places) + columnAt x t = omega (arith, even, b .1) in
+          let d = apart (columnAt x t) (columnAt x u) (column-low x ok t) (column-low x ok u) r in
+          rw (← same)
+          (strides-alike x ok q t u (moveFrom m (columnAt x t) .places) (d .0) g (rw (← same) at g′) o o′ (a .0) (rw (← same) at (b .0)) (d .1)
+          (rw (a .1) (rw (← same) at on)))

@@ -16,19 +16,21 @@ use Rattle.fill.specs.Learning.{Placed, Turns, FillsBytesEven}
 use Rattle.fill.proofs.ByteRuns.{entry-length, Stored, stored-next}
 use Rattle.fill.proofs.LearnRuns.{EvenRuns, even-starts, even-turns, even-ends}
 
-pub record EvenBytes (e : Elements) (m : Moves) (count quota : ℕ) (s₀ : State) (bs₀ table bs : List ℕ) (s : State) (n : ℕ) : Type 0 where
+pub record EvenBytes (e : Elements) (m : Moves) (count quota : ℕ) (s₀ : State) (bs₀ columns classes bs : List ℕ) (s : State) (n : ℕ) : Type 0 where
   pub same : length bs ≡ length bs₀
   pub stored : Stored bs₀ bs n
-  pub runs : EvenRuns e m count quota s₀ (wordsOf 4 bs₀) table (wordsOf 4 bs) s n
+  pub runs : EvenRuns e m count quota s₀ (wordsOf 4 bs₀) columns classes (wordsOf 4 bs) s n
 
 module _ {e : Elements} {m : Moves} {count quota : ℕ} {s₀ : State} (v : Starts m count quota s₀) where
-  pub even-bytes-start : {bs table : List ℕ} → ((q : ℕ) → getD table q 0 ≡ 0) → EvenBytes e m count quota s₀ bs table bs s₀ 0
+  pub even-bytes-start : {bs columns classes : List ℕ} → ((q : ℕ) → getD columns q 0 ≡ 0) → ((c : ℕ) → getD classes c 0 ≡ 0)
+      → EvenBytes e m count quota s₀ bs columns classes bs s₀ 0
   unfolding storeEntries
-  even-bytes-start none = record { same = refl; stored = refl; runs = even-starts v none }
+  even-bytes-start none none′ = record { same = refl; stored = refl; runs = even-starts v none none′ }
 
-  module _ {bs₀ table bs : List ℕ} {s : State} {n : ℕ} (r : EvenBytes e m count quota s₀ bs₀ table bs s n) where
+  module _ {bs₀ columns classes bs : List ℕ} {s : State} {n : ℕ} (r : EvenBytes e m count quota s₀ bs₀ columns classes bs s n) where
     pub even-bytes-turn : Placed e count → n < length bs₀ / 4 → (s .place .0 ≡ count → ⊥) → 3 ≤ quota - s .paid
-        → {table′ : List ℕ} {s′ : State} → Turns e m count table table′ s s′ → EvenBytes e m count quota s₀ bs₀ table′ (storeEntry bs n (s .address .0)) s′ (n + 1)
+        → {columns′ classes′ : List ℕ} {s′ : State} → Turns e m count columns columns′ classes classes′ s s′
+        → EvenBytes e m count quota s₀ bs₀ columns′ classes′ (storeEntry bs n (s .address .0)) s′ (n + 1)
     even-bytes-turn p room some tries t =
         let inside : n < length bs / 4 = rw (r .same) room in
         let low = r .runs .sound .address in

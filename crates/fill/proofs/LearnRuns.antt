@@ -13,38 +13,40 @@ use Rattle.fill.specs.declared.learning.Elements.{Elements}
 use Rattle.fill.specs.Moving.{Small, Sound, Roomy}
 use Rattle.fill.specs.Driving.{Stands}
 use Rattle.fill.specs.Bursts.{Starts}
-use Rattle.fill.specs.Learning.{Placed, Turns, Even, FillsEven}
+use Rattle.fill.specs.Learning.{Placed, classOf, Turns, Even, FillsEven}
 use Rattle.fill.proofs.MoveLaws.{light, at-most-le}
 use Rattle.fill.proofs.RunLaws.{Run, begins, turns, stops, ends}
-use Rattle.fill.proofs.LearnLaws.{Knows, learns-right}
+use Rattle.fill.proofs.LearnLaws.{Knows, finds-right}
 
 -- The fill of the list l₀ from state s₀ has come to state s, with n entries of the list l written and these moves known,
 -- whatever walk it goes along.
-pub record EvenRuns (e : Elements) (m : Moves) (count quota : ℕ) (s₀ : State) (l₀ table l : List ℕ) (s : State) (n : ℕ) : Type 0 where
+pub record EvenRuns (e : Elements) (m : Moves) (count quota : ℕ) (s₀ : State) (l₀ columns classes l : List ℕ) (s : State) (n : ℕ) : Type 0 where
   pub sound : Sound m s
   pub place : s .place .0 ≤ count
   pub left : s .paid ≤ quota
   pub runs : (w : Walk) → w .count ≡ count → (d : Even w m e) → Stands w m (d .paces) s₀
-      → Run w m (d .paces) (fillBy w (s₀ .place .0) quota l₀) quota l s n × Knows w m e d table
+      → Run w m (d .paces) (fillBy w (s₀ .place .0) quota l₀) quota l s n × Knows w m e d (λ q. q) columns × Knows w m e d (classOf e m) classes
 
 module _ {e : Elements} {m : Moves} {count quota : ℕ} {s₀ : State} (v : Starts m count quota s₀) where
-  pub even-starts : {l table : List ℕ} → ((q : ℕ) → getD table q 0 ≡ 0) → EvenRuns e m count quota s₀ l table l s₀ 0
-  even-starts {l} none = record {
+  pub even-starts : {l columns classes : List ℕ} → ((q : ℕ) → getD columns q 0 ≡ 0) → ((c : ℕ) → getD classes c 0 ≡ 0)
+      → EvenRuns e m count quota s₀ l columns classes l s₀ 0
+  even-starts {l} none none′ = record {
     sound = v .sound;
     place = v .place;
     left = omega (arith, v .paid);
-    runs = λ w z d h. (begins w m (d .paces) quota l s₀ (rw z (v .place)) (v .paid) h, λ q t f. absurd (f (none q)));
+    runs = λ w z d h. (begins w m (d .paces) quota l s₀ (rw z (v .place)) (v .paid) h, λ t f. absurd (f (none _)), λ t f. absurd (f (none′ _)));
   }
 
-  module _ {l₀ table l : List ℕ} {s : State} {n : ℕ} (r : EvenRuns e m count quota s₀ l₀ table l s n) where
+  module _ {l₀ columns classes l : List ℕ} {s : State} {n : ℕ} (r : EvenRuns e m count quota s₀ l₀ columns classes l s n) where
     -- what a turn asks
     pub even-asks : Small m × Sound m s × Roomy s
     even-asks =
         (v .small, r .sound, record { place = omega (arith, r .place, v .few); paid = omega (arith, r .left, v .low) })
 
     pub even-turns : Placed e count → n < length l → (s .place .0 ≡ count → ⊥) → 3 ≤ quota - s .paid
-        → {table′ : List ℕ} {s′ : State} → Turns e m count table table′ s s′ → EvenRuns e m count quota s₀ l₀ table′ (set l n (s .address .0)) s′ (n + 1)
-    even-turns p room some tries {table′} {s′} t =
+        → {columns′ classes′ : List ℕ} {s′ : State} → Turns e m count columns columns′ classes classes′ s s′
+        → EvenRuns e m count quota s₀ l₀ columns′ classes′ (set l n (s .address .0)) s′ (n + 1)
+    even-turns p room some tries t =
         let g = light m (s .column) (v .small) (r .sound .column) in
         rw (t .state) (record {
           sound = record { column = g .column; address = mod-lt _ (omega arith) };
@@ -53,9 +55,10 @@ module _ {e : Elements} {m : Moves} {count quota : ℕ} {s₀ : State} (v : Star
           runs = λ w z d h.
               let k = r .runs w z d h in
               let here : s .place .0 < w .count = omega (arith, r .place) in
-              let u = learns-right w m e d (subst (Placed e) (sym z) p) s (k .0 .stands) (r .sound .address) here (rw (← z) at (t .learns)) (k .1) in (
+              let u = finds-right w m e d (subst (Placed e) (sym z) p) s (k .0 .stands) here (rw (← z) at (t .finds)) (k .1) (k .2) in (
                 rw (← z) (stops w m (d .paces) (turns w m (d .paces) (k .0) room here (omega arith) (g .tries) (t .add) (u .0))),
                 u .1,
+                u .2,
               );
         })
 

@@ -7,6 +7,7 @@ pub mod ByteRuns
 pub mod ShapeLaws
 pub mod PaceLaws
 pub mod TallyLaws
+pub mod ColumnClasses
 pub mod AddressMoves
 pub mod DriveLaws
 pub mod SmallMoves

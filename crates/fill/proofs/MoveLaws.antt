@@ -1,10 +1,10 @@
 -- Which move is taken from a column, and its bounds. Assumes nothing.
 use Prim.Native.Nat.{ℕ, _+_, _-_, _%_, _≤_, _<_}
-use mathlib.Core.Path.{_≡_, refl}
+use mathlib.Core.Path.{_≡_, refl, sym, ap, _∙_}
 use mathlib.Core.Bool.{Bool, true, false, cond}
 use native.Mathlib.Nat.{mod-lt, le-refl}
 use native.Mathlib.Omega.{arith}
-use lib.Dec.{leb, ltb}
+use lib.Dec.{eqb, leb, ltb}
 use borrow.Author.Tests.{leb-true, leb-false, ltb-true, ltb-false, le-leb, lt-leb}
 use Rattle.fill.specs.declared.moves.Moves.{Moves}
 use Rattle.fill.specs.declared.moves.State.{State}
@@ -25,6 +25,23 @@ module _ (m : Moves) (q : ℕ) where
     unfolding moveFrom
     takes-both k = rw (lt-leb (q + m .up) (m .block - 1) (omega arith), lt-leb (m .down) q k)
 
+-- what holds of each step where it is taken holds of the move
+pub by-step : (m : Moves) (q : ℕ) (G : Move → Type 0)
+    → (q + m .up ≤ m .block - 1 → G (record { column = q + m .up; places = m .first; add = m .near; tries = 1 }))
+    → (m .block - 1 < q + m .up → m .down ≤ q → G (record { column = q - m .down; places = m .second; add = m .far; tries = 2 }))
+    → (m .block - 1 < q + m .up → q < m .down → G (record { column = q + m .up - m .down; places = m .first + m .second; add = m .both; tries = 3 }))
+    → G (moveFrom m q)
+unfolding moveFrom
+by-step m q G first second both = go (leb (q + m .up) (m .block - 1)) refl (leb (m .down) q) refl
+  where
+    go : (a : Bool) → leb (q + m .up) (m .block - 1) ≡ a → (b : Bool) → leb (m .down) q ≡ b
+        → G (cond a (record { column = q + m .up; places = m .first; add = m .near; tries = 1 })
+        (cond b (record { column = q - m .down; places = m .second; add = m .far; tries = 2 })
+        (record { column = q + m .up - m .down; places = m .first + m .second; add = m .both; tries = 3 })))
+    go true e b f = first (leb-true (q + m .up) (m .block - 1) e)
+    go false e true f = second (leb-false (q + m .up) (m .block - 1) e) (leb-true (m .down) q f)
+    go false e false f = both (leb-false (q + m .up) (m .block - 1) e) (leb-false (m .down) q f)
+
 -- a move stays in the block, and is no more than both steps
 pub record Light (m : Moves) (g : Move) : Type 0 where
   pub column : g .column < m .block
@@ -33,18 +50,42 @@ pub record Light (m : Moves) (g : Move) : Type 0 where
   pub tries : g .tries ≤ 3
 
 pub light : (m : Moves) (q : ℕ) → Small m → q < m .block → Light m (moveFrom m q)
-unfolding moveFrom
-light m q s h = go (leb (q + m .up) (m .block - 1)) refl (leb (m .down) q) refl
-  where
-    go : (a : Bool) → leb (q + m .up) (m .block - 1) ≡ a → (b : Bool) → leb (m .down) q ≡ b
-        → Light m (cond a (record { column = q + m .up; places = m .first; add = m .near; tries = 1 })
-        (cond b (record { column = q - m .down; places = m .second; add = m .far; tries = 2 })
-        (record { column = q + m .up - m .down; places = m .first + m .second; add = m .both; tries = 3 })))
-    go true e b f =
-        record { column = omega (arith, leb-true (q + m .up) (m .block - 1) e); places = omega arith; add = s .near; tries = omega arith }
-    go false e true f = record { column = omega arith; places = omega arith; add = s .far; tries = omega arith }
-    go false e false f =
-        record { column = omega (arith, leb-false (m .down) q f, s .up); places = omega arith; add = s .both; tries = omega arith }
+light m q s h =
+    by-step m q (Light m) (λ f. record { column = omega arith; places = omega arith; add = s .near; tries = omega arith })
+    (λ f k. record { column = omega arith; places = omega arith; add = s .far; tries = omega arith })
+    (λ f k. record { column = omega (arith, s .up); places = omega arith; add = s .both; tries = omega arith })
+
+-- a step is told by its tries: how many places it goes on, and by how many columns up and down
+abbrev placesBy : Moves → ℕ → ℕ
+placesBy m tries = cond (eqb tries 1) (m .first) (cond (eqb tries 2) (m .second) (m .first + m .second))
+
+abbrev riseBy : Moves → ℕ → ℕ
+riseBy m tries = cond (eqb tries 2) 0 (m .up)
+
+abbrev fallBy : Moves → ℕ → ℕ
+fallBy m tries = cond (eqb tries 1) 0 (m .down)
+
+record Told (m : Moves) (q : ℕ) (g : Move) : Type 0 where
+  pub few : g .tries ≤ 3
+  pub places : g .places ≡ placesBy m (g .tries)
+  pub column : m .down ≤ m .block → g .column + fallBy m (g .tries) ≡ q + riseBy m (g .tries)
+
+told : (m : Moves) (q : ℕ) → Told m q (moveFrom m q)
+told m q =
+    by-step m q (Told m q) (λ f. record { few = omega arith; places = refl; column = λ h. omega arith })
+    (λ f k. record { few = omega arith; places = refl; column = λ h. omega arith })
+    (λ f k. record { few = omega arith; places = refl; column = λ h. omega arith })
+
+pub tries-few : (m : Moves) (q : ℕ) → moveFrom m q .tries ≤ 3
+tries-few m q = told m q .few
+
+-- one step from two columns goes on alike
+module _ (m : Moves) (q q′ : ℕ) (e : moveFrom m q .tries ≡ moveFrom m q′ .tries) where
+  pub places-alike : moveFrom m q .places ≡ moveFrom m q′ .places
+  places-alike = told m q .places ∙ ap (placesBy m) e ∙ sym (told m q′ .places)
+
+  pub columns-alike : m .down ≤ m .block → moveFrom m q .column + q′ ≡ moveFrom m q′ .column + q
+  columns-alike h = omega (arith, told m q .column h, told m q′ .column h, ap (riseBy m) e, ap (fallBy m) e)
 
 -- the same of a state
 module _ (m : Moves) (s : State) where

@@ -179,4 +179,4 @@ module _ (w : Strided) (q : ℕ) where
     learnt-planned m f x ok same =
         let l : 0 < 4294967296 = lit< tt in
         subst (λ (z : Moves). PlannedFor x q (Learnt z)) (sym (f ∙ moves-are w x same (TwoSteps r b) e 0 0 0))
-        (moves-small x ok 0 0 0 l l l, block-of x 0 0 0, even x ok 0 0 0 q)
+        (moves-small x ok 0 0 0 l l l, block-of x 0 0 0, even x ok 0 0 0 q (moves-small x ok 0 0 0 l l l))

@@ -20,6 +20,12 @@ module _ (f : ℕ → Bool) where
   tally-still i (suc n) h =
       ap (tally f) (add-suc i n) ∙ tally-no f (i + n) (h n (omega arith)) ∙ tally-still i n (λ j l. h j (omega arith))
 
+  -- where all of the next n pass, it grows by n
+  pub tally-run : (i n : ℕ) → ((j : ℕ) → j < n → f (i + j) ≡ true) → tally f (i + n) ≡ tally f i + n
+  tally-run i zero h = ap (tally f) (add-zero i) ∙ omega arith
+  tally-run i (suc n) h =
+      ap (tally f) (add-suc i n) ∙ omega (arith, tally-yes f (i + n) (h n (omega arith)), tally-run i n (λ j l. h j (omega arith)))
+
   -- from a number that passes to the next one that does, it grows by 1
   pub tally-gap : (i n : ℕ) → 0 < n → f i ≡ true → ((j : ℕ) → 0 < j → j < n → f (i + j) ≡ false) → tally f (i + n) ≡ tally f i + 1
   tally-gap i zero pos e h = absurd (omega arith)

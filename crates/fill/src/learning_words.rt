@@ -10,17 +10,19 @@ ghost use lib.ListN.{getD};
 ghost use Rattle.fill.specs.Bursts.{Starts};
 ghost use Rattle.fill.specs.Learning.{Placed, FillsEven};
 
-// The fill by moves that are learnt, with a table that knows none yet.
+// The fill by moves that are learnt, with tables that know none yet.
 fn fill_learning(
     e: Elements,
     m: Moves,
     count: u64,
     quota: u64,
     start: State,
-    table: &mut [u32],
+    columns: &mut [u32],
+    classes: &mut [u32],
     list: &mut [u32],
 ) -> Report
-    requires { ⌜ Placed e count × Starts m count quota start × ((q : ℕ) → getD (now table) q 0 ≡ 0) ⌝ }
+    requires { ⌜ Placed e count × Starts m count quota start
+        × ((q : ℕ) → getD (now columns) q 0 ≡ 0) × ((c : ℕ) → getD (now classes) c 0 ≡ 0) ⌝ }
     ensures { λ r. ⌜ FillsEven e m count quota start (now (list .entry)) (now (list .exit)) r ⌝ }
 {
     let mut s = start;
@@ -33,7 +35,7 @@ fn fill_learning(
             break;
         }
         list[n] = s.address.0 as u32;
-        s = learning::turn(e, m, count, table, s);
+        s = learning::turn(e, m, count, columns, classes, s);
         n += 1;
     }
     let place = s.place;
@@ -44,7 +46,7 @@ fn fill_learning(
     }
 }
 
-fn with_short_table(
+fn with_short_tables(
     e: Elements,
     m: Moves,
     count: u64,
@@ -55,11 +57,12 @@ fn with_short_table(
     requires { ⌜ Placed e count × Starts m count quota start ⌝ }
     ensures { λ r. ⌜ FillsEven e m count quota start (now (list .entry)) (now (list .exit)) r ⌝ }
 {
-    let mut table = [0u32; 1024];
-    fill_learning(e, m, count, quota, start, &mut table, list)
+    let mut columns = [0u32; 64];
+    let mut classes = [0u32; 64];
+    fill_learning(e, m, count, quota, start, &mut columns, &mut classes, list)
 }
 
-fn with_long_table(
+fn with_long_tables(
     e: Elements,
     m: Moves,
     count: u64,
@@ -70,12 +73,13 @@ fn with_long_table(
     requires { ⌜ Placed e count × Starts m count quota start ⌝ }
     ensures { λ r. ⌜ FillsEven e m count quota start (now (list .entry)) (now (list .exit)) r ⌝ }
 {
-    let mut table = [0u32; 65536];
-    fill_learning(e, m, count, quota, start, &mut table, list)
+    let mut columns = [0u32; 1024];
+    let mut classes = [0u32; 1024];
+    fill_learning(e, m, count, quota, start, &mut columns, &mut classes, list)
 }
 
-// The fill by moves that are learnt. A short list does not pay for a long table: columns that
-// the table does not have are learnt each time.
+// The fill by moves that are learnt. A short list does not pay for long tables: moves that
+// have no entry there are found each time.
 pub fn fill_words_learning(
     e: Elements,
     m: Moves,
@@ -87,10 +91,8 @@ pub fn fill_words_learning(
     requires { ⌜ Placed e count × Starts m count quota start ⌝ }
     ensures { λ r. ⌜ FillsEven e m count quota start (now (list .entry)) (now (list .exit)) r ⌝ }
 {
-    if 1024 < m.block {
-        if 1024 < list.len() {
-            return with_long_table(e, m, count, quota, start, list);
-        }
+    if 64 < list.len() {
+        return with_long_tables(e, m, count, quota, start, list);
     }
-    with_short_table(e, m, count, quota, start, list)
+    with_short_tables(e, m, count, quota, start, list)
 }

@@ -4,9 +4,9 @@
 use model::Address;
 use model::Position;
 ghost use mathlib.Core.Path.{_≡_};
-ghost use Prim.Native.Nat.{_<_, _≤_};
+ghost use Prim.Native.Nat.{_+_, _*_, _<_, _≤_};
 ghost use Rattle.fill.specs.Moving.{stepped, stopAt, Small, Sound, Roomy};
-ghost use Rattle.fill.specs.Bursts.{Sure, Goes};
+ghost use Rattle.fill.specs.Bursts.{Short};
 
 // How a walk goes on from a column: the columns of a block; by how many columns the
 // processor step goes up and the return step down; how many positions each goes on; and
@@ -31,6 +31,12 @@ pub struct State {
     pub paid: u64,
 }
 
+// What a burst made: the state that it came to, and its turns.
+pub struct Made {
+    pub state: State,
+    pub turns: usize,
+}
+
 // What a fill returns.
 pub struct Report {
     pub entries: usize,
@@ -40,6 +46,9 @@ pub struct Report {
 
 // Addresses are added modulo this.
 const ADDRESSES: u64 = 4294967296;
+
+// A burst of fewer turns is short.
+pub const SHORT: usize = 16;
 
 // The state after the first step that fits: the processor step, the return step, or both.
 // The place may pass the count.
@@ -97,13 +106,19 @@ fn least(a: u64, b: u64) -> u64
     if a < b { a } else { b }
 }
 
-// How many turns are sure to write, of at most `room`: none but the last can reach the count,
-// and the tries are there whatever each turn costs.
-pub fn sure(m: Moves, count: u64, quota: u64, s: State, room: usize) -> usize
-    requires { ⌜ Goes m count quota s × (0 < room) ⌝ }
-    ensures { λ r. ⌜ (0 < r) × (r ≤ room) × Sure m count quota s r ⌝ }
+// How many turns, of at most `most`, are sure to write: none but the last can reach the count.
+pub fn sure_turns(m: Moves, count: u64, s: State, most: usize) -> usize
+    requires { ⌜ Small m × (s .place .0 < count) × (0 < most) ⌝ }
+    ensures { λ r. ⌜ (0 < r) × (r ≤ most) × Short m count s r ⌝ }
 {
-    let tries = (quota - s.paid) / 3;
     let places = (count - 1 - s.place.0) / (m.first + m.second) + 1;
-    least(least(tries, places), room as u64) as usize
+    least(places, most as u64) as usize
+}
+
+// How many turns, of at most `room`, have their tries, whatever each turn costs.
+pub fn paid_turns(quota: u64, paid: u64, room: usize) -> usize
+    requires { ⌜ (paid + 3 ≤ quota) × (0 < room) ⌝ }
+    ensures { λ r. ⌜ (0 < r) × (r ≤ room) × (paid + 3 * r ≤ quota) ⌝ }
+{
+    least((quota - paid) / 3, room as u64) as usize
 }

@@ -1,4 +1,4 @@
--- The mapping, the section and the fill that a C function's numbers make, read off the parameters.
+-- The mapping, the section, the fill and the transfer that a C function's numbers make, read off the parameters.
 use Prim.Native.Nat.{ℕ}
 use mathlib.Core.Path.{_≡_, subst, _∙_}
 use mathlib.Core.List.{List}
@@ -10,9 +10,11 @@ use Rattle.numbers.proofs.Signed.{back}
 use Rattle.model.specs.declared.Mapping.{Mapping}
 use Rattle.model.specs.declared.Section.{Section}
 use Rattle.model.specs.ByteFills.{ByteFill}
+use Rattle.model.specs.Transfers.{Lists}
 use Rattle.mapping.specs.Answers.{mappingOf}
 use Rattle.fill.specs.declared.Filled.{Filled}
 use Rattle.fill.specs.Answers.{FilledBytes}
+use Rattle.transfer.specs.Answers.{callOf}
 use Rattle.hpfaddr.specs.Fields.{sectionFrom}
 
 -- a mapping made of the numbers as the machine reads them back
@@ -38,3 +40,8 @@ pub fill-read : {x y : Section} (q t z : ℤ) → SFits w64 q → SFits w64 t �
 fill-read q t z fq ft fz e bs after r =
     subst (λ (c : ByteFill). FilledBytes c after r)
     (λ i. record { section = e i; processor = toZ-ofZ w64 q fq i; place = toZ-ofZ w64 t ft i; quota = toZ-ofZ w64 z fz i; bytes = bs })
+
+-- a transfer of two such sections, with its own numbers
+pub call-read : {x y x′ y′ : Section} (q m : ℤ) → SFits w64 q → SFits w64 m → x′ ≡ x → y′ ≡ y → (l : Lists)
+    → callOf x′ y′ (back w64 q) (back w64 m) l ≡ callOf x y q m l
+call-read q m fq fm e d l = λ i. callOf (e i) (d i) (toZ-ofZ w64 q fq i) (toZ-ofZ w64 m fm i) l

@@ -1,11 +1,12 @@
 -- The fields of what each C function returns, as the paper's numbers. Definitions only.
-use Prim.Native.Nat.{ℕ}
+use Prim.Native.Nat.{ℕ, _^_, _<_}
 use mathlib.Core.Path.{_≡_}
 use mathlib.Core.List.{List}
 use lib.IntN.{ℤ}
 use Rattle.model.specs.declared.Section.{Section}
 use Rattle.model.specs.Calls.{OwnershipAnswer, GoingBackAnswer, LocalCountAnswer, SectionStepsAnswer, PlaceAnswer, fill}
 use Rattle.model.specs.ByteFills.{ByteFill, inWords, bytesAfter}
+use Rattle.model.specs.Transfers.{Lists, TransferCall, TransferAnswer, transfers, ListsAfter}
 use Rattle.mapping.specs.Answers.{mappingOf}
 use Rattle.section.specs.Strides.{tripletOf}
 use Rattle.fill.specs.Answers.{FillReport, reportOf}
@@ -15,6 +16,7 @@ use Rattle.hpfaddr.specs.declared.HpfCounted.{HpfCounted}
 use Rattle.hpfaddr.specs.declared.sections.HpfSteps.{HpfSteps}
 use Rattle.hpfaddr.specs.declared.sections.HpfPlaced.{HpfPlaced}
 use Rattle.hpfaddr.specs.declared.sections.HpfFilled.{HpfFilled}
+use Rattle.hpfaddr.specs.declared.assignment.HpfTransferred.{HpfTransferred}
 
 abbrev pub ownedFields : HpfOwned → OwnershipAnswer
 ownedFields r = record { refusal = r .refusal; processor = r .processor; address = r .address }
@@ -49,3 +51,14 @@ abbrev pub FilledFields : Section → ℤ → ℤ → ℤ → List ℕ → List 
 FilledFields x q t z bs bs′ r =
     let c : ByteFill = record { section = x; processor = q; place = t; quota = z; bytes = bs } in
     (filledFields r ≡ reportOf (fill (inWords c))) × (bs′ ≡ bytesAfter c)
+
+abbrev pub transferredFields : HpfTransferred → TransferAnswer
+transferredFields r = record { refusal = r .refusal; entries = r .entries; needed = r .needed }
+
+-- a transfer returns what the definition says, and leaves lists that it allows: the order of their entries is open
+abbrev pub TransferredFields : TransferCall → Lists → HpfTransferred → Type 0
+TransferredFields c after r = (transferredFields r ≡ transfers c) × ListsAfter c after
+
+-- both numbers of an answer fit a field of 32 bits
+abbrev pub Small : TransferAnswer → Type 0
+Small a = (a .entries < 2 ^ 32) × (a .needed < 2 ^ 32)

@@ -13,7 +13,6 @@ use Rattle.model.specs.Ownership.{nat, layoutOf, ownerOf, held}
 use Rattle.model.specs.Questions.{Question, firstNo, isBelow, isIndex, ofMapping, ofProcessor, ofIndex, ofAddress}
 use Rattle.model.specs.Calls.{ownership, goingBack, localCount}
 use Rattle.model.proofs.QuestionLaws.{all-yes, asks-on, stops, whole-mapping}
-use Rattle.mapping.specs.declared.questions.Mapped.{Mapped}
 use Rattle.mapping.specs.declared.questions.Mapped.the-variants.{By, Refused}
 use Rattle.mapping.specs.Answers.{mappedOf, noOwner, notFound, notCounted, ownershipIn, goingBackIn, localCountIn}
 

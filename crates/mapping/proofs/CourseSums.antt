@@ -1,5 +1,5 @@
 -- A processor's elements below an index are the difference of two sums of courses, and the sums fit. Assumes nothing.
-use Prim.Native.Nat.{ℕ, zero, suc, _+_, _-_, _*_, _/_, _%_, _^_, _≤_, _<_}
+use Prim.Native.Nat.{ℕ, zero, suc, _+_, _-_, _*_, _/_, _%_, _<_}
 use mathlib.Core.Path.{_≡_, sym, ap, _∙_}
 use native.Mathlib.Nat.{div-add-mod', mod-lt, div-div-eq-div-mul, add-mul-div-right, mul-comm}
 use native.Mathlib.Decide.{decLt}

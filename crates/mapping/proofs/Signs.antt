@@ -1,6 +1,6 @@
 -- The sign of a number, the natural number that it is, and what the machine's answers say of a parameter.
 use Prim.Native.Nat.{ℕ, zero-le, _<_}
-use mathlib.Core.Path.{_≡_, refl, sym, ap, _∙_}
+use mathlib.Core.Path.{_≡_, refl, sym, _∙_}
 use mathlib.Core.Bool.{Bool, true, false, not, false≢true}
 use native.Mathlib.Omega.{arith}
 use borrow.Author.Tests.{ltb-true, le-leb, not-true, not-false}

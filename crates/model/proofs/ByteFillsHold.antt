@@ -1,6 +1,6 @@
 -- Byte fills leave the words of the fills that they stand for, and the bytes that are no entry as they were; so demand 3 of
 -- them is that of those fills. Assumes nothing.
-use Prim.Native.Nat.{ℕ, suc, _+_, _-_, _*_, _^_, _≤_, _<_, zero-le}
+use Prim.Native.Nat.{ℕ, suc, _-_, _*_, _^_, _≤_, _<_, zero-le}
 use mathlib.Core.Path.{_≡_, refl, ap, _∙_}
 use mathlib.Core.Bool.{Bool, true, false, cond, _&&_, _||_}
 use mathlib.Core.List.{List, [], _∷_, _++_, map}
@@ -25,7 +25,7 @@ use Rattle.model.specs.Filling.{Walk, Filled, stopped, wrote, fillBy, an
 use Rattle.model.specs.Questions.{Question, firstNo, isPlace, ofSection, ofProcessor, ofPlace, ofQuota}
 use Rattle.model.specs.Calls.{FillCall, ofFill, walkOf, requestOf, fill}
 use Rattle.model.specs.Demand3.{FollowsOn, InTurn, InOneList, Demand3}
-use Rattle.model.specs.ByteFills.{ByteFill, inWords, storeEntries, bytesAfter, outcomeOf, callsOf}
+use Rattle.model.specs.ByteFills.{ByteFill, inWords, bytesAfter, outcomeOf, callsOf}
 use Rattle.model.proofs.QuestionLaws.{all-yes, both-yes, accepted}
 use Rattle.model.proofs.SectionLaws.{index-lt}
 use Rattle.model.proofs.AddressLaws.{owns-of}

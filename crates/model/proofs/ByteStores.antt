@@ -1,12 +1,12 @@
 -- Addresses stored as entries of a list of bytes: what they change, and what they leave. Assumes nothing.
-use Prim.Native.Nat.{ℕ, zero, suc, _+_, _*_, _/_, _^_, _≤_, _<_}
-use mathlib.Core.Path.{_≡_, refl, sym, ap, _∙_}
+use Prim.Native.Nat.{ℕ, suc, _+_, _*_, _/_, _^_, _≤_, _<_}
+use mathlib.Core.Path.{_≡_, refl, sym, _∙_}
 use mathlib.Core.List.{List, [], _∷_, _++_, append-assoc}
-use native.Mathlib.Nat.{add-zero, zero-add, mul-le-mul-left}
+use native.Mathlib.Nat.{add-zero}
 use native.Mathlib.Omega.{arith}
-use lib.ListN.{length, take, drop, set, take-append-drop}
-use lib.Seq.{take-suc-set, drop-set-lt, length-take-le}
-use Rattle.numbers.specs.Words.{wordsOf, storeAt}
+use lib.ListN.{length, take, drop, take-append-drop}
+use lib.Seq.{take-suc-set, drop-set-lt}
+use Rattle.numbers.specs.Words.{wordsOf}
 use Rattle.numbers.proofs.WordLaws.{words-length, words-store, store-length, store-after}
 use Rattle.model.specs.ByteFills.{storeEntry, storeEntries}
 

@@ -2,7 +2,7 @@
 use Prim.Native.Nat.{ℕ, _<_}
 use mathlib.Core.Path.{_≡_, refl, ap}
 use native.Mathlib.Omega.{arith}
-use lib.IntN.{pos, natAbs}
+use lib.IntN.{natAbs}
 use Rattle.model.specs.declared.Layout.{Layout}
 use Rattle.model.specs.declared.Section.{Section}
 use Rattle.model.specs.Ownership.{cellOf, cellOwner, ownerOf}

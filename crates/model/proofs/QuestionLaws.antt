@@ -7,7 +7,7 @@ use native.Mathlib.Nat.{not-suc-le-zero}
 use native.Mathlib.Omega.{arith}
 use lib.Dec.{leb, ltb, eqb}
 use lib.IntN.{ℤ, pos, negsuc, natAbs, _+ℤ_, _-ℤ_, _*ℤ_}
-use lib.Signed.{leZ, ltZ}
+use lib.Signed.{ltZ}
 use borrow.Author.Tests.{ltb-true, leb-true, le-ltb, le-leb, lt-ltb, eqb-true, eqb-false, ne-eqb, not-true}
 use Rattle.numbers.proofs.Tests.{both-true}
 use Rattle.model.specs.declared.Mapping.{Mapping}

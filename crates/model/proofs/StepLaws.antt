@@ -3,13 +3,18 @@
 -- more the one step is the smallest multiple of S that leads to the same owner from any column.
 use Prim.Native.Nat.{ℕ, _+_, _*_, _%_, _≤_, _<_}
 use mathlib.Core.Path.{_≡_, refl, sym, ap, _∙_}
+use mathlib.Core.Bool.{Bool, true, false, cond}
 use mathlib.Core.Logic.{inl, ⊎-elim}
 use native.Mathlib.Nat.{mod-eq-of-lt, mod-lt, div-add-mod', mul-mod-left, mul-le-mul-right}
 use native.Mathlib.Omega.{arith}
+use lib.Dec.{ltb}
+use borrow.Author.Tests.{ltb-true, ltb-false}
 use Rattle.numbers.specs.Gcd.{gcd}
 use Rattle.numbers.proofs.Division.{rest-is}
 use Rattle.model.specs.declared.Step.{Step}
-use Rattle.model.specs.Steps.{processorIndex, returnIndex, processorStep, returnStep, oneStep}
+use Rattle.model.specs.declared.Steps.{Steps}
+use Rattle.model.specs.declared.Steps.the-variants.{NoStep, OneStep, TwoSteps}
+use Rattle.model.specs.Steps.{processorIndex, returnIndex, processorStep, returnStep, oneStep, stepsBy}
 use Rattle.model.proofs.Rests.{Course, sum-mod, rests, Least, Forward, Backward, Fits, not-both}
 use Rattle.model.proofs.Turns.{End, two, one, ended}
 use Rattle.model.proofs.StepEnds.{
@@ -22,6 +27,22 @@ use Rattle.model.proofs.StepEnds.{
   end-one,
   one-least,
 }
+
+-- ---- none, two or one
+
+-- what holds in each case holds of the steps
+pub step-cases : (P : Steps → Type 0) (n M k S : ℕ) → (n < 2 → P NoStep)
+    → (2 ≤ n → gcd S M < k → P (TwoSteps (processorStep M k S) (returnStep M k S)))
+    → (2 ≤ n → k ≤ gcd S M → P (OneStep (oneStep M S)))
+    → P (stepsBy n M k S)
+unfolding stepsBy
+step-cases P n M k S none pair single = go (ltb n 2) refl (ltb (gcd S M) k) refl
+  where
+    go : (t : Bool) → ltb n 2 ≡ t → (u : Bool) → ltb (gcd S M) k ≡ u
+        → P (cond t NoStep (cond u (TwoSteps (processorStep M k S) (returnStep M k S)) (OneStep (oneStep M S))))
+    go true e u f = none (ltb-true n 2 e)
+    go false e true f = pair (ltb-false n 2 e) (ltb-true (gcd S M) k f)
+    go false e false f = single (ltb-false n 2 e) (ltb-false (gcd S M) k f)
 
 -- ---- by multiples of S
 

@@ -1,9 +1,9 @@
 -- A triplet's count gives it exactly the elements that Fortran 95 does. Assumes nothing.
 use Prim.Native.Nat.{ℕ, zero, suc, _+_, _-_, _*_, _/_, _≤_, _<_, zero-le}
-use mathlib.Core.Path.{_≡_, refl, sym, ap, ap₂, _∙_, subst}
+use mathlib.Core.Path.{_≡_, refl, sym, ap, _∙_}
 use mathlib.Core.Logic.{_↔_}
 use mathlib.Core.Bool.{Bool, true, false, cond, true≢false}
-use native.Mathlib.Nat.{div-eq-of-lt, add-div-right, zero-div, zero-lt-suc, div-add-mod', mod-lt, mul-le-mul-right, not-suc-le-zero}
+use native.Mathlib.Nat.{div-eq-of-lt, add-div-right, zero-div, zero-lt-suc, div-add-mod', mod-lt, mul-le-mul-right}
 use native.Mathlib.Numerals.{add-one}
 use native.Mathlib.Omega.{arith}
 use lib.Dec.{leb, ltb}

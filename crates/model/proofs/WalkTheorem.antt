@@ -9,7 +9,6 @@ use native.Mathlib.Omega.{arith}
 use lib.Dec.{ltb}
 use borrow.Author.Tests.{lt-ltb, le-ltb}
 use Rattle.numbers.specs.Search.{passing, headOr}
-use Rattle.numbers.specs.Gcd.{gcd}
 use Rattle.numbers.proofs.Division.{lt-of-mul}
 use Rattle.numbers.proofs.SearchLaws.{passing-none, head-skip}
 use Rattle.model.specs.declared.Section.{Section}
@@ -17,12 +16,13 @@ use Rattle.model.specs.declared.Steps.{Steps}
 use Rattle.model.specs.declared.Steps.the-variants.{NoStep, OneStep, TwoSteps}
 use Rattle.model.specs.Ownership.{courseCells, ownerOf}
 use Rattle.model.specs.Sections.{layout, count, index, cell, ownsAt}
-use Rattle.model.specs.Steps.{processorStep, returnStep, oneStep, stepsBy, spread, stepsOf, upward, going, isPast, nextBy, nextPlace}
+use Rattle.model.specs.Steps.{stepsBy, spread, stepsOf, upward, going, isPast, nextBy, nextPlace}
 use Rattle.model.specs.Questions.{firstNo, ofSection}
 use Rattle.model.proofs.QuestionLaws.{accepted}
 use Rattle.model.proofs.SectionLaws.{Moved, spread-pos, cells-moved}
 use Rattle.model.proofs.AddressLaws.{owns-of, of-owns, unowned}
 use Rattle.model.proofs.Rests.{le-or-lt}
+use Rattle.model.proofs.StepLaws.{step-cases}
 use Rattle.model.proofs.WalkLaws.{leb-same, Nearest, walk-cells}
 
 -- the step rule leads to the next position that the processor owns, or to the count
@@ -39,12 +39,7 @@ Some (OneStep m) = Unit {0}
 Some (TwoSteps r w) = Unit {0}
 
 pub some-steps : (n M k S : ℕ) → 2 ≤ n → Some (stepsBy n M k S)
-unfolding stepsBy
-some-steps n M k S l = rw (le-ltb n 2 l) (go (ltb (gcd S M) k))
-  where
-    go : (b : Bool) → Some (cond b (TwoSteps (processorStep M k S) (returnStep M k S)) (OneStep (oneStep M S)))
-    go true = tt
-    go false = tt
+some-steps n M k S l = step-cases Some n M k S (λ h. omega arith) (λ h d. tt) (λ h d. tt)
 
 -- ---- an accepted section
 

@@ -9,7 +9,7 @@ use Rattle.model.specs.declared.Mapping.{Mapping}
 use Rattle.model.specs.declared.Triplet.{Triplet}
 use Rattle.model.specs.declared.Section.{Section}
 use Rattle.model.specs.Ownership.{nat, layoutOf, ownerOf, held}
-use Rattle.model.specs.Sections.{countOf, elementAt, count, ownsAt}
+use Rattle.model.specs.Sections.{elementAt, count, ownsAt}
 
 pub record Question : Type 0 where
   pub number : ℕ

@@ -7,14 +7,13 @@ use lib.IntN.{ℤ, pos, negsuc}
 use lib.ListN.{replicate}
 use Rattle.numbers.specs.Search.{passing}
 use Rattle.model.specs.declared.Mapping.{Mapping}
-use Rattle.model.specs.declared.Triplet.{Triplet}
 use Rattle.model.specs.declared.Section.{Section}
 use Rattle.model.specs.declared.Step.{Step}
 use Rattle.model.specs.declared.Steps.{Steps}
 use Rattle.model.specs.declared.Steps.the-variants.{NoStep, OneStep, TwoSteps}
 use Rattle.model.specs.Sections.{count, index, firstPlace}
 use Rattle.model.specs.Steps.{stepsOf}
-use Rattle.model.specs.Filling.{got, reported, paid, standing}
+use Rattle.model.specs.Filling.{got, paid, standing}
 use Rattle.model.specs.Questions.{firstNo, ofSection}
 use Rattle.model.specs.Calls.{FillCall, fill}
 

@@ -1,12 +1,11 @@
 -- Document 01, "Steps of a section". M stands for pk, the cells of a course, and S for a·|s|. Definitions only.
-use Prim.Native.Nat.{ℕ, zero, suc, _+_, _-_, _*_, _/_, _%_}
+use Prim.Native.Nat.{ℕ, _+_, _-_, _*_, _/_, _%_}
 use mathlib.Core.Bool.{Bool, true, false, not, cond, _&&_}
 use lib.Dec.{leb, ltb}
 use lib.IntN.{natAbs}
 use lib.Signed.{nonNeg}
 use Rattle.numbers.specs.Search.{passing, headOr}
 use Rattle.numbers.specs.Gcd.{gcd}
-use Rattle.model.specs.declared.Layout.{Layout}
 use Rattle.model.specs.declared.Section.{Section}
 use Rattle.model.specs.declared.Step.{Step}
 use Rattle.model.specs.declared.Steps.{Steps}

@@ -2,14 +2,12 @@
 -- that the same processor owns.
 use Prim.Native.Nat.{ℕ, suc, _+_, _-_, _*_, _≤_, _<_}
 use mathlib.Core.Path.{_≡_, refl, sym, ap, _∙_}
-use mathlib.Core.Bool.{Bool, true, false, cond}
+use mathlib.Core.Bool.{Bool, true, false}
 use native.Mathlib.Nat.{mul-pos}
 use mathlib.Core.Logic.{_⊎_, inl, inr}
 use native.Mathlib.Omega.{arith}
-use lib.Dec.{ltb}
-use borrow.Author.Tests.{lt-ltb, ltb-false}
+use borrow.Author.Tests.{lt-ltb}
 use Rattle.numbers.specs.Search.{passing, headOr}
-use Rattle.numbers.specs.Gcd.{gcd}
 use Rattle.numbers.proofs.Division.{product-le}
 use Rattle.numbers.proofs.SearchLaws.{head-le, passing-same}
 use Rattle.model.specs.declared.Section.{Section}
@@ -17,10 +15,11 @@ use Rattle.model.specs.declared.Steps.{Steps}
 use Rattle.model.specs.declared.Steps.the-variants.{NoStep, OneStep, TwoSteps}
 use Rattle.model.specs.Ownership.{courseCells, columnOf}
 use Rattle.model.specs.Sections.{layout, count, cell, ownsAt}
-use Rattle.model.specs.Steps.{processorIndex, returnIndex, processorStep, returnStep, oneStep, stepsBy, tryBoth, goOn, spread, stepsOf, upward, going, nextPlace}
+use Rattle.model.specs.Steps.{processorIndex, returnIndex, processorStep, returnStep, stepsBy, tryBoth, goOn, spread, stepsOf, upward, going, nextPlace}
 use Rattle.model.specs.Steps as document
 use Rattle.model.specs.Questions.{firstNo, ofSection}
 use Rattle.model.proofs.Rests.{le-or-lt}
+use Rattle.model.proofs.StepLaws.{step-cases}
 use Rattle.model.proofs.WalkTheorem.{Walks, walks, Some, some-steps, next-place-by}
 use Rattle.section.specs.declared.questions.Strided.{Strided}
 use Rattle.section.specs.Strides.{stridedOf, Bounded, ownedAt, stepsIn}
@@ -48,8 +47,8 @@ Light (OneStep x) = Unit {0}
 Light (TwoSteps r b) = r .cells + b .cells < 9223372036854775808
 
 pub light : (w : Strided) → Bounded w → Light (stepsIn w)
-unfolding stepsBy processorStep returnStep processorIndex returnIndex
-light w b = go (ltb (w .count) 2) refl (ltb (gcd S M) k)
+unfolding processorStep returnStep processorIndex returnIndex
+light w b = step-cases Light (w .count) M k S (λ h. tt) (λ h d. both h) (λ h d. tt)
   where
     M : ℕ
     M = courseCells (w .layout)
@@ -63,15 +62,11 @@ light w b = go (ltb (w .count) 2) refl (ltb (gcd S M) k)
     few : 2 ≤ w .count → (i : ℕ) → i ≤ M → i * S ≤ 67108864 * 2147483648
     few h i l = product-le 67108864 2147483648 (omega (arith, course-high (w .layout) (b .sized))) (omega (arith, b .spread-high h))
 
-    go : (t : Bool) → ltb (w .count) 2 ≡ t → (u : Bool)
-        → Light (cond t NoStep (cond u (TwoSteps (processorStep M k S) (returnStep M k S)) (OneStep (oneStep M S))))
-    go true e u = tt
-    go false e true =
-        let two = ltb-false (w .count) 2 e in
+    both : 2 ≤ w .count → Light (TwoSteps (processorStep M k S) (returnStep M k S))
+    both h =
         let i : processorIndex M k S ≤ M = head-le _ 0 M M 1 (omega arith) (omega arith) in
         let j : returnIndex M k S ≤ M = head-le _ 0 M M 1 (omega arith) (omega arith) in
-        omega (arith, few two (processorIndex M k S) i, few two (returnIndex M k S) j)
-    go false e false = tt
+        omega (arith, few h (processorIndex M k S) i, few h (returnIndex M k S) j)
 
 -- ---- the next place
 

@@ -1,11 +1,9 @@
 -- The steps of an accepted section, by cases.
 use Prim.Native.Nat.{ℕ, _*_, _≤_, _<_}
-use mathlib.Core.Path.{_≡_, refl}
-use mathlib.Core.Bool.{Bool, true, false, cond}
+use mathlib.Core.Path.{_≡_}
 use native.Mathlib.Nat.{mul-pos}
 use native.Mathlib.Omega.{arith}
-use borrow.Author.Tests.{ltb-true, lt-ltb, le-ltb}
-use lib.Dec.{ltb}
+use borrow.Author.Tests.{lt-ltb, le-ltb}
 use Rattle.numbers.specs.Gcd.{gcd}
 use Rattle.numbers.proofs.GcdLaws.{gcd-pos-left}
 use Rattle.model.specs.declared.Steps.the-variants.{NoStep, OneStep, TwoSteps}
@@ -13,7 +11,7 @@ use Rattle.model.specs.Ownership.{courseCells}
 use Rattle.model.specs.Steps.{processorStep, returnStep, oneStep, stepsBy}
 use Rattle.model.proofs.Rests.{Course}
 use Rattle.model.proofs.CellOwners.{block-le}
-use Rattle.model.proofs.StepLaws.{processor-law, return-law}
+use Rattle.model.proofs.StepLaws.{step-cases, processor-law, return-law}
 use Rattle.section.specs.declared.questions.Strided.{Strided}
 use Rattle.section.specs.Strides.{Bounded, stepsIn}
 use Rattle.section.specs.Falls.{Searched}
@@ -61,30 +59,17 @@ module _ (w : Strided) {m s : ℕ} (em : m ≡ courseCells (w .layout)) (es : s 
 
 -- the column moves are shorter than a block
 pub short : (w : Strided) → Bounded w → Short (stepsIn w)
-unfolding stepsBy oneStep
-short w b = go (ltb (w .count) 2) (ltb (gcd S M) k) refl
+unfolding oneStep
+short w b =
+    step-cases Short (w .count) (courseCells (w .layout)) (w .layout .block) (w .layout .stride * w .stride)
+    (λ l. tt)
+    (λ l d. (omega (arith, processor-law h d .few, b .sized .block-high), omega (arith, return-law h d .few, b .sized .block-high)))
+    (λ l d. omega arith)
   where
-    M : ℕ
-    M = courseCells (w .layout)
-
-    k : ℕ
-    k = w .layout .block
-
-    S : ℕ
-    S = w .layout .stride * w .stride
-
-    h : Course M k S
+    h : Course (courseCells (w .layout)) (w .layout .block) (w .layout .stride * w .stride)
     h =
         record {
           block-pos = b .sized .block-pos;
           block-le = block-le (w .layout) (b .sized .processors-pos) (b .sized .block-pos);
           spread-pos = mul-pos (b .sized .stride-pos) (b .stride-pos);
         }
-
-    go : (t u : Bool) → ltb (gcd S M) k ≡ u
-        → Short (cond t NoStep (cond u (TwoSteps (processorStep M k S) (returnStep M k S)) (OneStep (oneStep M S))))
-    go true u e = tt
-    go false true e =
-        let d : gcd S M < k = ltb-true (gcd S M) k e in
-        (omega (arith, processor-law h d .few, b .sized .block-high), omega (arith, return-law h d .few, b .sized .block-high))
-    go false false e = omega arith

@@ -1,5 +1,6 @@
 // The strict reader of a sheet: the bytes' content, or refusal 14 with its place, and what a
-// section of the sheet stands for. Numbers are read in number.rt, parts in part.rt.
+// section of the sheet stands for. Numbers are read in number.rt, parts in part.rt. The place
+// is the first byte that no well-formed sheet has after the bytes before it.
 ghost use mathlib.Core.Path.{_≡_};
 ghost use lib.ListN.{length, getD};
 ghost use Rattle.sheet.specs.Contents.{readSheet, noLine, sectionIn};

@@ -23,13 +23,13 @@ use Rattle.transfer.specs.Answers.{listsOf, callOf, transferredAs, risin
 use Rattle.transfer.proofs.PairAnswers.{Passed, pair-passed, pair-stopped}
 use Rattle.transfer.proofs.PairLists.{same-places, after, pair-listed}
 
--- ---- no question of a pair has the number 13
+-- ---- a number that no question of a list has is not its refusal
 
-abbrev lacks : ℕ → List Question → Bool
+abbrev pub lacks : ℕ → List Question → Bool
 lacks k [] = true
 lacks k (q ∷ qs) = not (eqb (q .number) k) && lacks k qs
 
-never : (k : ℕ) (qs : List Question) → lacks k qs ≡ true → firstNo qs ≡ k → k ≡ 0
+pub never : (k : ℕ) (qs : List Question) → lacks k qs ≡ true → firstNo qs ≡ k → k ≡ 0
 unfolding firstNo
 never k [] h e = sym e
 never k (q ∷ qs) h e = go (never k qs (both-true (not (eqb (q .number) k)) (lacks k qs) h .1)) (q .holds) refl

@@ -1,17 +1,14 @@
 -- `counted_in` meets its contract.
-use Prim.Native.Nat.{ℕ, _<_}
-use mathlib.Core.Path.{_≡_, sym, ap, _∙_}
-use mathlib.Core.Bool.{true, false}
+use mathlib.Core.Path.{_≡_}
+use mathlib.Core.Bool.{true}
 use native.Mathlib.Nat.{le-refl}
 use borrow.Author.Needs.{needs}
 use lib.IntN.{pos}
 use mir.Syntax.{w64}
 use Rattle.numbers.proofs.Signed.{read-of}
-use Rattle.model.specs.Ownership.{nat, ownerOf, held}
+use Rattle.model.specs.Ownership.{nat}
 use Rattle.model.specs.Questions.{isBelow}
-use Rattle.model.proofs.QuestionLaws.{below-is}
 use Rattle.mapping.specs.Answers.{localCountIn}
-use Rattle.mapping.specs.Bounds.{Dealt}
 use Rattle.mapping.proofs.Signs.{said-no, said-yes, below-natural}
 use Rattle.mapping.proofs.counted_in.Statement.{statement}
 use Rattle.mapping.proofs.counted_in.Tie as tie

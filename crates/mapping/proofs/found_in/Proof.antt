@@ -1,10 +1,10 @@
 -- `found_in` meets its contract.
 use Prim.Native.Nat.{ℕ, _<_}
 use mathlib.Core.Path.{_≡_, sym, ap, subst, _∙_}
-use mathlib.Core.Bool.{true, false}
+use mathlib.Core.Bool.{true}
 use native.Mathlib.Nat.{le-refl}
 use borrow.Author.Needs.{needs}
-use lib.IntN.{ℤ, pos}
+use lib.IntN.{pos}
 use mir.Syntax.{w64}
 use Rattle.numbers.proofs.Signed.{read-of}
 use Rattle.model.specs.Ownership.{nat, ownerOf, held}

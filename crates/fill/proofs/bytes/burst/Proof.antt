@@ -1,26 +1,34 @@
 -- `burst` meets its contract.
-use Prim.Native.Nat.{_-_}
+use Prim.Native.Nat.{_-_, _<_}
+use mathlib.Core.Logic.{inl}
 use native.Mathlib.Omega.{arith}
 use borrow.Author.Needs.{needs}
 use Rattle.model.specs.ByteFills.{storeEntry}
 use Rattle.fill.specs.Moving.{Small, Sound, Roomy}
-use Rattle.fill.proofs.BurstLaws.{Bursting, bursting-starts, bursting-turns, bursting-ends, bursting-steps}
+use Rattle.fill.proofs.BurstLaws.{Bursting, bursting-starts, bursting-turns, bursting-ends, bursting-short, bursting-steps}
 use Rattle.fill.proofs.ByteRuns.{entry-length}
 use Rattle.fill.proofs.bytes.burst.Statement.{statement}
 use Rattle.fill.proofs.bytes.burst.Tie as tie
 
 abbrev Inv-loop : tie.InvT-loop
-Inv-loop m list₀ from turns s₀ i₀ list s i = Bursting storeEntry m list₀ from turns s₀ list s i
+Inv-loop m count list₀ from turns s₀ i₀ list s i = Bursting storeEntry m count list₀ from turns s₀ list s i
 
 abbrev μ-loop : tie.MeasureT-loop
-μ-loop m list₀ from turns s₀ i₀ list s i = turns - i
+μ-loop m count list₀ from turns s₀ i₀ list s i = turns - i
 
 -- what is known before each turn's step
-ready : (c : tie.In-loop Inv-loop μ-loop) → Small (c .before .before .before .args .m) × Sound (c .before .before .before .args .m) (c .before .loop .s) × Roomy (c .before .loop .s)
-ready c = bursting-steps storeEntry entry-length _ (c .before .loop .inv) (c .before .before .before .pre .0) (c .loop-test .taken)
+here : (c : tie.In-loop Inv-loop μ-loop) → c .before .loop .s .place .0 < c .before .before .before .args .count
+here c =
+    let p = c .before .before .before .pre in
+    bursting-short storeEntry entry-length _ _ (c .before .loop .inv) (p .0) (p .1) (c .loop-test .taken)
+
+ready : (c : tie.In-loop Inv-loop μ-loop)
+    → Small (c .before .before .before .args .m) × Sound (c .before .before .before .args .m) (c .before .loop .s) × Roomy (c .before .loop .s)
+ready c =
+    bursting-steps storeEntry entry-length _ _ (c .before .loop .inv) (c .before .before .before .pre .0) (c .loop-test .taken) (here c)
 
 loop-holds : tie.Need-loop-holds Inv-loop μ-loop
-loop-holds c = bursting-starts storeEntry entry-length _
+loop-holds c = bursting-starts storeEntry entry-length _ _
 
 add-put-entry : tie.Need-add-put-entry Inv-loop μ-loop
 add-put-entry c = search needs
@@ -44,13 +52,14 @@ loop-again : tie.Need-loop-again Inv-loop μ-loop
 loop-again c =
     let p = c .before .before .before in
     let b = p .before .before .before in
-    rw (p .put-entry .ensures, c .step .ensures) (bursting-turns storeEntry entry-length _ (b .before .loop .inv) (b .loop-test .taken))
+    rw (p .put-entry .ensures, c .step .ensures)
+    (bursting-turns storeEntry entry-length _ _ (b .before .loop .inv) (b .loop-test .taken) (here b))
 
 same-length : tie.Need-same-length Inv-loop μ-loop
 same-length c = search needs
 
 returns : tie.Need-returns Inv-loop μ-loop
-returns c = bursting-ends storeEntry entry-length _ (c .before .loop .inv) (c .loop-test .left)
+returns c = bursting-ends storeEntry entry-length _ _ (c .before .loop .inv) (c .before .before .before .pre .0) (inl (c .loop-test .left))
 
 pub burst-spec : {M : Type 1} → statement M
 burst-spec =

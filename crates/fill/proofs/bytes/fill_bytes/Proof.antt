@@ -5,7 +5,7 @@ use mathlib.Core.Logic.{inl, inr, ⊎-elim}
 use native.Mathlib.Omega.{arith}
 use lib.ListN.{length}
 use borrow.Author.Needs.{needs}
-use Rattle.fill.proofs.BurstLaws.{run-goes, run-asks}
+use Rattle.fill.proofs.BurstLaws.{run-asks, made-sure}
 use Rattle.fill.proofs.ByteRuns.{ByteRuns, bytes-start, bytes-burst, bytes-end}
 use Rattle.fill.proofs.bytes.fill_bytes.Statement.{statement}
 use Rattle.fill.proofs.bytes.fill_bytes.Tie as tie
@@ -22,44 +22,46 @@ loop-holds c = (refl, omega arith, bytes-start _ _ _ _ _ (c .before .pre))
 sub-if2 : tie.Need-sub-if2 Inv-loop μ-loop
 sub-if2 c = search needs
 
-sub-sure : tie.Need-sub-sure Inv-loop μ-loop
-sub-sure c = search needs
+sub-paid-turns : tie.Need-sub-paid-turns Inv-loop μ-loop
+sub-paid-turns c = search needs
 
-sure-requires : tie.Need-sure-requires Inv-loop μ-loop
-sure-requires c κs =
-    let b = c .before .before .before .before .before in
-    (run-goes (b .before .before .pre) (b .loop .inv .2 .runs) (c .before .before .if1 .left) (c .if2 .left), search needs)
+paid-turns-requires : tie.Need-paid-turns-requires Inv-loop μ-loop
+paid-turns-requires c κs = (omega (arith, c .if2 .left), search needs)
 
-burst-requires : tie.Need-burst-requires Inv-loop μ-loop
-burst-requires c κs =
-    let b = c .before .before .before .before .before .before .before in
-    let m = c .before .sure .ensures in
+next-turns-requires : tie.Need-next-turns-requires Inv-loop μ-loop
+next-turns-requires c κs =
+    let e = c .before .before .before .before in
+    let b = e .before .before .before in
     let v = b .loop .inv in
-    (run-asks (b .before .before .pre) (v .2 .runs) (m .2), rw (v .2 .same) (omega (arith, m .1, v .0)))
+    let p = c .before .paid-turns .ensures in
+    (run-asks (b .before .before .pre) (v .2 .runs) (e .if1 .left) (p .0) (p .2), rw (v .2 .same) (omega (arith, p .1, v .0)))
 
 stop-at-requires : tie.Need-stop-at-requires Inv-loop μ-loop
 stop-at-requires c κs = search needs
 
 add-n : tie.Need-add-n Inv-loop μ-loop
 add-n c =
-    let u = c .before .before .before .before .before in
+    let m = c .before .before .before .before in
+    let u = m .before .before in
     let b = u .before .before .before .before .before .before in
-    omega (arith, u .sure .ensures .1, b .loop .inv .0, b .before .before .good .1 .1 .1 .1 .0 .0)
+    omega (arith, m .next-turns .ensures .low, u .paid-turns .ensures .1, b .loop .inv .0, b .before .before .good .1 .1 .1 .1 .0 .0)
 
 loop-less : tie.Need-loop-less Inv-loop μ-loop
-loop-less c = search needs
+loop-less c =
+    let m = c .before .before .before .before in
+    omega (arith, m .next-turns .ensures .some, m .next-turns .ensures .low, m .before .before .paid-turns .ensures .1)
 
 loop-again : tie.Need-loop-again Inv-loop μ-loop
 loop-again c =
-    let e = c .before .before .before .burst .ensures in
-    let u = c .before .before .before .before .before in
+    let m = c .before .before .before .before in
+    let r = m .next-turns .ensures in
+    let u = m .before .before in
     let b = u .before .before .before .before .before .before in
     let v = b .loop .inv in
-    let m = u .sure .ensures in
-    rw (c .stop-at .ensures, e .0) (
+    rw (c .before .stop-at .ensures, r .state) (
       v .0,
-      omega (arith, m .1),
-      rw (e .1) (bytes-burst (v .2) (b .before .before .pre) (m .2) (omega (arith, m .1, v .0))),
+      omega (arith, u .paid-turns .ensures .1, r .low),
+      rw (r .list) (bytes-burst (v .2) (b .before .before .pre) (made-sure r (u .paid-turns .ensures .2)) (omega (arith, u .paid-turns .ensures .1, r .low, v .0))),
     )
 
 same-length : tie.Need-same-length Inv-loop μ-loop
@@ -79,9 +81,9 @@ fill-bytes-spec =
     μ-loop
     loop-holds
     sub-if2
-    sub-sure
-    sure-requires
-    burst-requires
+    sub-paid-turns
+    paid-turns-requires
+    next-turns-requires
     stop-at-requires
     add-n
     loop-less

@@ -5,23 +5,24 @@ use mathlib.Core.Logic.{inl, inr, ⊎-elim}
 use native.Mathlib.Omega.{arith}
 use lib.ListN.{length}
 use borrow.Author.Needs.{needs}
-use Rattle.fill.proofs.LearnLaws.{learns-length}
+use Rattle.fill.proofs.LearnLaws.{finds-lengths}
 use Rattle.fill.proofs.LearnRuns.{even-asks}
 use Rattle.fill.proofs.LearnBytes.{EvenBytes, even-bytes-start, even-bytes-turn, even-bytes-end}
 use Rattle.fill.proofs.learning_bytes.fill_learning.Statement.{statement}
 use Rattle.fill.proofs.learning_bytes.fill_learning.Tie as tie
 
 abbrev Inv-loop : tie.InvT-loop
-Inv-loop e m count quota table₀ list₀ room s₀ n₀ table list s n =
-    (length table ≡ length table₀) × (room ≡ length list₀ / 4) × EvenBytes e m count quota s₀ list₀ table list s n
+Inv-loop e m count quota columns₀ classes₀ list₀ room s₀ n₀ columns classes list s n =
+    (length columns ≡ length columns₀) × (length classes ≡ length classes₀)
+    × (room ≡ length list₀ / 4) × EvenBytes e m count quota s₀ list₀ columns classes list s n
 
 abbrev μ-loop : tie.MeasureT-loop
-μ-loop e m count quota table₀ list₀ room s₀ n₀ table list s n = room - n
+μ-loop e m count quota columns₀ classes₀ list₀ room s₀ n₀ columns classes list s n = room - n
 
 loop-holds : tie.Need-loop-holds Inv-loop μ-loop
 loop-holds c =
-    let p = c .before .before .pre in
-    (refl, refl, even-bytes-start (p .1) (p .2))
+    let p = c .before .before .before .pre in
+    (refl, refl, refl, even-bytes-start (p .1) (p .2) (p .3))
 
 sub-if2 : tie.Need-sub-if2 Inv-loop μ-loop
 sub-if2 c = search needs
@@ -33,38 +34,40 @@ put-entry-requires : tie.Need-put-entry-requires Inv-loop μ-loop
 put-entry-requires c κs =
     let i = c .before .before .before .before .before .before in
     let v = i .before .loop .inv in
-    rw (v .2 .same) (omega (arith, i .loop-test .taken, v .1))
+    rw (v .3 .same) (omega (arith, i .loop-test .taken, v .2))
 
 turn-requires : tie.Need-turn-requires Inv-loop μ-loop
 turn-requires c κs =
-    let b = c .before .before .before .before .before .before .before .before .before .before .before in
-    let p = b .before .before .before .pre in
-    let a = even-asks (p .1) (b .loop .inv .2 .runs) in
+    let b = c .before .before .before .before .before .before .before .before .before .before .before .before in
+    let p = b .before .before .before .before .pre in
+    let a = even-asks (p .1) (b .loop .inv .3 .runs) in
     (p .0, a .0, a .1, a .2)
 
 add-n : tie.Need-add-n Inv-loop μ-loop
 add-n c =
-    let t = c .before .before in
-    let i = t .before .before .before .before .before .before .before .before .before .before .before in
+    let t = c .before .before .before .before in
+    let i = t .before .before .before .before .before .before .before .before .before .before .before .before in
     let b = i .before in
-    omega (arith, i .loop-test .taken, b .loop .inv .1, b .before .before .before .good .1 .1 .1 .1 .1 .1 .0 .0)
+    omega (arith, i .loop-test .taken, b .loop .inv .2, b .before .before .before .before .good .1 .1 .1 .1 .1 .1 .1 .0 .0)
 
 loop-less : tie.Need-loop-less Inv-loop μ-loop
 loop-less c = search needs
 
 loop-again : tie.Need-loop-again Inv-loop μ-loop
 loop-again c =
-    let t = c .before .before in
-    let u = t .before .before .before .before in
+    let t = c .before .before .before .before in
+    let u = t .before .before .before .before .before in
     let f = u .before .before .before in
     let i = f .before .before .before .before in
     let b = i .before in
-    let p = b .before .before .before .pre in
-    let v = b .loop .inv in (
-      learns-length (t .turn .ensures .learns) ∙ v .0,
-      v .1,
+    let p = b .before .before .before .before .pre in
+    let v = b .loop .inv in
+    let g = finds-lengths (t .turn .ensures .finds) in (
+      g .0 ∙ v .0,
+      g .1 ∙ v .1,
+      v .2,
       rw (u .put-entry .ensures)
-          (even-bytes-turn (p .1) (v .2) (p .0) (omega (arith, i .loop-test .taken, v .1)) (f .before .before .if1 .left) (f .if2 .left) (t .turn .ensures)),
+          (even-bytes-turn (p .1) (v .3) (p .0) (omega (arith, i .loop-test .taken, v .2)) (f .before .before .if1 .left) (f .if2 .left) (t .turn .ensures)),
     )
 
 same-length : tie.Need-same-length Inv-loop μ-loop
@@ -73,12 +76,15 @@ same-length c = search needs
 same-length-2 : tie.Need-same-length-2 Inv-loop μ-loop
 same-length-2 c = search needs
 
+same-length-3 : tie.Need-same-length-3 Inv-loop μ-loop
+same-length-3 c = search needs
+
 returns : tie.Need-returns Inv-loop μ-loop
 returns c =
     let b = c .before .before in
     let v = b .loop .inv in
-    even-bytes-end (b .before .before .before .pre .1) (v .2)
-    (⊎-elim (λ x. inl (omega (arith, x .left, v .1))) (λ y. inr (⊎-elim (λ x. inl (x .2 .taken)) (λ x. inr (x .4 .taken)) y)) (c .before .loop-test .came))
+    even-bytes-end (b .before .before .before .before .pre .1) (v .3)
+    (⊎-elim (λ x. inl (omega (arith, x .left, v .2))) (λ y. inr (⊎-elim (λ x. inl (x .2 .taken)) (λ x. inr (x .4 .taken)) y)) (c .before .loop-test .came))
 
 pub fill-learning-spec : {M : Type 1} → statement M
 fill-learning-spec =
@@ -96,4 +102,5 @@ fill-learning-spec =
     loop-again
     same-length
     same-length-2
+    same-length-3
     returns)

@@ -6,7 +6,7 @@ use native.Mathlib.Omega.{arith}
 use lib.ListN.{length, set, length-set}
 use borrow.Author.Needs.{needs}
 use Rattle.fill.proofs.RunLaws.{Runs, run-starts, run-ends}
-use Rattle.fill.proofs.BurstLaws.{burst-length, run-goes, run-asks, run-bursts}
+use Rattle.fill.proofs.BurstLaws.{burst-length, run-asks, run-bursts, made-sure}
 use Rattle.fill.proofs.words.fill_words.Statement.{statement}
 use Rattle.fill.proofs.words.fill_words.Tie as tie
 
@@ -22,44 +22,47 @@ loop-holds c = (refl, omega arith, run-starts _ _ _ _ _ (c .before .pre))
 sub-if2 : tie.Need-sub-if2 Inv-loop μ-loop
 sub-if2 c = search needs
 
-sub-sure : tie.Need-sub-sure Inv-loop μ-loop
-sub-sure c = search needs
+sub-paid-turns : tie.Need-sub-paid-turns Inv-loop μ-loop
+sub-paid-turns c = search needs
 
-sure-requires : tie.Need-sure-requires Inv-loop μ-loop
-sure-requires c κs =
-    let b = c .before .before .before .before .before in
-    (run-goes (b .before .before .pre) (b .loop .inv .2) (c .before .before .if1 .left) (c .if2 .left), search needs)
+paid-turns-requires : tie.Need-paid-turns-requires Inv-loop μ-loop
+paid-turns-requires c κs = (omega (arith, c .if2 .left), search needs)
 
-burst-requires : tie.Need-burst-requires Inv-loop μ-loop
-burst-requires c κs =
-    let b = c .before .before .before .before .before .before .before in
-    let m = c .before .sure .ensures in
-    (run-asks (b .before .before .pre) (b .loop .inv .2) (m .2), omega (arith, m .1))
+next-turns-requires : tie.Need-next-turns-requires Inv-loop μ-loop
+next-turns-requires c κs =
+    let e = c .before .before .before .before in
+    let b = e .before .before .before in
+    let v = b .loop .inv in
+    let p = c .before .paid-turns .ensures in
+    (run-asks (b .before .before .pre) (v .2) (e .if1 .left) (p .0) (p .2), omega (arith, p .1))
 
 stop-at-requires : tie.Need-stop-at-requires Inv-loop μ-loop
 stop-at-requires c κs = search needs
 
 add-n : tie.Need-add-n Inv-loop μ-loop
 add-n c =
-    let u = c .before .before .before .before .before in
+    let m = c .before .before .before .before in
+    let u = m .before .before in
     let b = u .before .before .before .before .before .before in
-    omega (arith, u .sure .ensures .1, b .loop .inv .0, b .before .before .good .1 .1 .1 .1 .0 .0)
+    omega (arith, m .next-turns .ensures .low, u .paid-turns .ensures .1, b .loop .inv .0, b .before .before .good .1 .1 .1 .1 .0 .0)
 
 loop-less : tie.Need-loop-less Inv-loop μ-loop
-loop-less c = search needs
+loop-less c =
+    let m = c .before .before .before .before in
+    omega (arith, m .next-turns .ensures .some, m .next-turns .ensures .low, m .before .before .paid-turns .ensures .1)
 
 loop-again : tie.Need-loop-again Inv-loop μ-loop
 loop-again c =
-    let e = c .before .before .before .burst .ensures in
-    let u = c .before .before .before .before .before in
+    let m = c .before .before .before .before in
+    let r = m .next-turns .ensures in
+    let u = m .before .before in
     let b = u .before .before .before .before .before .before in
     let v = b .loop .inv in
-    let m = u .sure .ensures in
-    let same = ap length (e .1) ∙ burst-length set length-set _ _ _ _ _ in
-    rw (c .stop-at .ensures, e .0) (
+    let same = ap length (r .list) ∙ burst-length set length-set _ _ _ _ _ in
+    rw (c .before .stop-at .ensures, r .state) (
       same ∙ v .0,
-      omega (arith, same, m .1),
-      rw (e .1) (run-bursts (b .before .before .pre) (v .2) (m .2) (omega (arith, m .1))),
+      omega (arith, same, u .paid-turns .ensures .1, r .low),
+      rw (r .list) (run-bursts (b .before .before .pre) (v .2) (made-sure r (u .paid-turns .ensures .2)) (omega (arith, u .paid-turns .ensures .1, r .low))),
     )
 
 same-length : tie.Need-same-length Inv-loop μ-loop
@@ -78,9 +81,9 @@ fill-words-spec =
     μ-loop
     loop-holds
     sub-if2
-    sub-sure
-    sure-requires
-    burst-requires
+    sub-paid-turns
+    paid-turns-requires
+    next-turns-requires
     stop-at-requires
     add-n
     loop-less

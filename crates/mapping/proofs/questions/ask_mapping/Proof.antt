@@ -1,5 +1,5 @@
 -- `ask_mapping` meets its contract: a field of 64 bits is read back as the number it is.
-use mathlib.Core.Path.{_≡_, _∙_}
+use mathlib.Core.Path.{_∙_}
 use borrow.Author.Needs.{needs}
 use mir.Syntax.{w64}
 use mir.ValLaws.{toZ-ofZ}

@@ -1,5 +1,4 @@
 -- `is_below` meets its contract.
-use mathlib.Core.Path.{_≡_}
 use mir.Syntax.{w64}
 use mir.ValLaws.{toZ-ofZ}
 use mir.Facts.{fits-natAbs}

@@ -1,7 +1,6 @@
 -- `mapped_of` meets its contract.
 use Prim.Native.Nat.{ℕ, _<_}
 use mathlib.Core.Path.{_≡_, refl, sym, _∙_}
-use mathlib.Core.Bool.{true, false}
 use native.Mathlib.Omega.{arith}
 use borrow.Author.Needs.{needs}
 use borrow.Author.Tests.{eq-eqb, ne-eqb}
@@ -13,7 +12,6 @@ use Rattle.model.specs.declared.Layout.{Layout}
 use Rattle.model.specs.Ownership.{nat, layoutOf}
 use Rattle.model.specs.Questions.{firstNo, ofMapping}
 use Rattle.model.proofs.QuestionLaws.{mapped}
-use Rattle.mapping.specs.declared.questions.Mapped.{Mapped}
 use Rattle.mapping.specs.declared.questions.Mapped.the-variants.{By, Refused}
 use Rattle.mapping.specs.Answers.{mappingOf, mappedOf, Sound}
 use Rattle.mapping.proofs.questions.mapped_of.Statement.{statement}

@@ -1,5 +1,4 @@
 -- `within` meets its contract.
-use mathlib.Core.Path.{_≡_}
 use mir.Syntax.{w64}
 use mir.ValLaws.{toZ-ofZ}
 use Rattle.numbers.proofs.Signed.{holds-le, fails-le}

@@ -1,12 +1,13 @@
 -- `list_pair` meets its contract: a list is too short, or all are written in rising order.
-use Prim.Native.Nat.{ℕ, _≤_}
+use Prim.Native.Nat.{ℕ, _≤_, _<_}
 use mathlib.Core.Path.{_≡_, refl, ap, _∙_}
 use mathlib.Core.List.{List}
 use mathlib.Core.Logic.{inl, inr}
+use native.Mathlib.Omega.{arith}
 use borrow.Author.Needs.{needs}
 use lib.ListN.{length}
 use Rattle.model.specs.Transfers.{Lists}
-use Rattle.transfer.specs.Walks.{fronted}
+use Rattle.transfer.specs.Walks.{Addressable, fronted}
 use Rattle.transfer.specs.Answers.{listsOf, rising}
 use Rattle.transfer.proofs.ListingLaws.{room-yes, room-no, too-short, addressable, all-listed}
 use Rattle.transfer.proofs.listing.list_pair.Statement.{statement}
@@ -45,7 +46,8 @@ returns-3 : tie.Need-returns-3
 unfolding lists
 returns-3 c =
     let n = c .before .before .before in
-    too-short _ (counted n) (lists (start n)) (room-no _ (lists (start n)) (inr (inr (c .if3 .taken))))
+    let short : length (start n .args .received .now) < n .count-along .result = omega arith in
+    too-short _ (counted n) (lists (start n)) (room-no _ (lists (start n)) (inr (inr short)))
 
 write-along-requires : tie.Need-write-along-requires
 write-along-requires c κs = search needs
@@ -74,19 +76,28 @@ module _ (c : tie.After-write-along) where
   room-3 : n ≤ length (start (count c) .args .received .now)
   room-3 = c .before .before .if3 .left
 
+  -- so either section's addresses of the positions may be written into a list that has room
+  of-sender : (l : List ℕ) → n ≤ length l → Addressable (start (count c) .args .p .sender .section) (c .write-along .last .1 .0) n l
+  unfolding lists
+  of-sender l h =
+      let s = start (count c) in
+      addressable _ (counted (count c)) (lists s) _ (wrote c) (s .args .p .sender) l (s .pre .first) refl room-1 h
+
+  of-receiver : (l : List ℕ) → n ≤ length l → Addressable (start (count c) .args .p .receiver .section) (c .write-along .last .1 .0) n l
+  unfolding lists
+  of-receiver l h =
+      let s = start (count c) in
+      addressable _ (counted (count c)) (lists s) _ (wrote c) (s .args .p .receiver) l (s .pre .second) (s .pre .counts) room-1 h
+
 write-addresses-requires : tie.Need-write-addresses-requires
-unfolding lists
 write-addresses-requires c κs =
     let w = c .before .before .before .before .before .before .before .before in
-    let s = start (count w) in
-    addressable _ (counted (count w)) (lists s) _ (wrote w) (s .args .p .sender) _ (s .pre .first) refl (room-1 w) (room-2 w)
+    search (of-sender w, of-receiver w, room-2 w)
 
 write-addresses-requires-2 : tie.Need-write-addresses-requires-2
-unfolding lists
 write-addresses-requires-2 c κs =
     let w = c .before .before .before .before .before .before .before .before .before .before .before .before .before in
-    let s = start (count w) in
-    addressable _ (counted (count w)) (lists s) _ (wrote w) (s .args .p .receiver) _ (s .pre .second) (s .pre .counts) (room-1 w) (room-3 w)
+    search (of-sender w, of-receiver w, room-3 w)
 
 same-length : tie.Need-same-length
 same-length c = search needs

@@ -1,0 +1,52 @@
+/* The goals of speed. */
+#include "goals.h"
+
+#include <inttypes.h>
+#include <stdio.h>
+
+typedef struct {
+    const char *what, *unit;
+    double bound;
+    int at_least;
+    int inputs, met;
+    double worst;
+    input where;
+} held;
+
+static held goals[GOALS] = {
+    [LONG_STRIDE_1] = {"long fills, a = 1: fill / table walk", "", 1.0, 0, 0, 0, 0, {0}},
+    [LONG_STEP_1] = {"long fills, \\|s\\| = 1, other a: fill / table walk", "", 1.0, 0, 0, 0, 0, {0}},
+    [LONG_OTHER] = {"long fills, other a and s: fill / table walk", "", 2.0, 0, 0, 0, 0, {0}},
+    [SHORT_FILLS] = {"short fills, k = 65,536: table walk with its set-up / fill", "", 20.0, 1, 0, 0, 0, {0}},
+    [GOING_BACK] = {"going back, a = 1", " ns", 1000.0, 0, 0, 0, 0, {0}},
+};
+
+void hold_against(goal g, double figure, const input *in)
+{
+    held *h = &goals[g];
+    int worse = h->at_least ? figure < h->worst : figure > h->worst;
+    if (h->inputs == 0 || worse) {
+        h->worst = figure;
+        h->where = *in;
+    }
+    h->inputs++;
+    h->met += h->at_least ? figure >= h->bound : figure <= h->bound;
+}
+
+void print_goals(void)
+{
+    printf("\n## Goals\n\n"
+           "| goal | bound | worst | met | at p | k | a | s | inputs that meet it |\n"
+           "|---|---|---|---|---|---|---|---|---|\n");
+    for (goal g = 0; g < GOALS; g++) {
+        const held *h = &goals[g];
+        const input *in = &h->where;
+        printf("| %s | at %s %.4g%s | %.4g%s | %s | %" PRId64 " | %" PRId64 " | %" PRId64 " | ", h->what,
+               h->at_least ? "least" : "most", h->bound, h->unit, h->worst, h->unit,
+               h->met == h->inputs ? "yes" : "**no**", in->processors, in->block, in->stride);
+        if (in->step == 0)
+            printf("- | %d of %d |\n", h->met, h->inputs);
+        else
+            printf("%" PRId64 " | %d of %d |\n", in->step, h->met, h->inputs);
+    }
+}

@@ -1,0 +1,14 @@
+/* The goals of speed: the worst figure of each, and where it was met. */
+#ifndef BENCH_GOALS_H
+#define BENCH_GOALS_H
+
+#include "library.h"
+
+typedef enum { LONG_STRIDE_1, LONG_STEP_1, LONG_OTHER, SHORT_FILLS, GOING_BACK, GOALS } goal;
+
+/* Holds a figure against a goal. */
+void hold_against(goal g, double figure, const input *in);
+
+void print_goals(void);
+
+#endif

@@ -1,0 +1,16 @@
+/* The tables that are printed, each under its heading. */
+#ifndef BENCH_TABLES_H
+#define BENCH_TABLES_H
+
+/* long_fills.c, short_fills.c */
+void print_long_fills(int each_input);
+void print_short_fills(void);
+
+/* elements.c: ownership and going back; sections.c: first place and steps */
+void print_elements(void);
+void print_sections(void);
+
+/* growth.c */
+void print_growth(void);
+
+#endif

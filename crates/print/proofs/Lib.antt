@@ -1,0 +1,8 @@
+-- The laws behind the print.
+pub mod PutLaws
+pub mod LineLaws
+pub mod AheadLaws
+pub mod WentLaws
+pub mod PartLaws
+pub mod PieceLaws
+pub mod PrintsLaws

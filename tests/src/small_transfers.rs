@@ -1,0 +1,108 @@
+//! Assignments between small arrays, all pairs of a sender and a receiver: the
+//! entries with lists that are too short, exact and longer, and each position in
+//! one pair, once.
+
+use crate::comparison::{Comparison, Difference, Outcome};
+use crate::transfer_comparison::Transferring;
+use crate::transfer_enumeration::{pair, Entry, Half};
+use crate::transfer_library::{Side, Transfer};
+
+const SIZE: i64 = 13;
+const PROCESSORS: [i64; 4] = [1, 2, 3, 5];
+const BLOCKS: [i64; 3] = [1, 2, 4];
+/// Stride and offset.
+const ALIGNMENTS: [(i64, i64); 4] = [(1, 0), (1, 3), (2, 1), (5, 2)];
+
+/// Sections of 13, 7, 5, 1 and no elements, upwards and downwards.
+const SECTIONS: [[i64; 3]; 13] = [
+    [0, 12, 1],
+    [12, 0, -1],
+    [0, 12, 2],
+    [12, 0, -2],
+    [9, 3, -1],
+    [0, 13, 3],
+    [12, 0, -3],
+    [2, 6, 1],
+    [10, 1, -2],
+    [7, 7, 5],
+    [0, -4, -9],
+    [5, 1, 3],
+    [1, 5, -3],
+];
+
+pub fn compare_assignments(comparison: &mut Comparison) -> Result<String, Difference> {
+    let mut assignments = 0;
+    for left in sides() {
+        for right in sides() {
+            compare_assignment(comparison, &left, &right)?;
+            assignments += 1;
+        }
+    }
+    Ok(format!("{assignments} small assignments, every pair"))
+}
+
+fn sides() -> Vec<Side> {
+    let mut sides = Vec::new();
+    for p in PROCESSORS {
+        for k in BLOCKS {
+            for (a, b) in ALIGNMENTS {
+                for [l, h, s] in SECTIONS {
+                    let cells = a * (SIZE - 1) + b + 1;
+                    sides.push(Side::of([cells, p, k, a, b, SIZE, l, h, s]));
+                }
+            }
+        }
+    }
+    sides
+}
+
+fn compare_assignment(comparison: &mut Comparison, left: &Side, right: &Side) -> Outcome {
+    let transfer = |sender: i64, receiver: i64| Transfer {
+        left: *left,
+        right: *right,
+        sender,
+        receiver,
+    };
+    let (senders, receivers) = (right.m.processors, left.m.processors);
+    for (sender, receiver) in [(-1, 0), (senders, 0), (0, -1), (0, receivers)] {
+        comparison.transfers(
+            &transfer(sender, receiver),
+            [1; 3],
+            &Transferring::refused(8),
+        )?;
+    }
+    let halves = [left, right].map(Half::of_small);
+    let [to, from] = &halves;
+    if to.count() != from.count() {
+        comparison.transfers(&transfer(0, 0), [0; 3], &Transferring::refused(12))?;
+        return Ok(());
+    }
+    let mut times = vec![0; to.count() as usize];
+    for sender in 0..senders {
+        for receiver in 0..receivers {
+            let entries = pair(to, from, sender as u64, receiver as u64);
+            let found = compare_pair(comparison, &transfer(sender, receiver), &entries)?;
+            found.iter().for_each(|entry| times[entry[0] as usize] += 1);
+        }
+    }
+    comparison.same(times.iter().all(|&once| once == 1), true, || {
+        format!("how often each position stands in a pair, {times:?}, {left:?}, {right:?}")
+    })
+}
+
+/// With each list too short by one, exact lists and longer ones.
+fn compare_pair(
+    comparison: &mut Comparison,
+    transfer: &Transfer,
+    entries: &[Entry],
+) -> Result<Vec<Entry>, Difference> {
+    let n = entries.len();
+    if n > 0 {
+        for rooms in [[n - 1, n, n], [n, n - 1, n + 2], [n, n, n - 1], [0; 3]] {
+            comparison.transfers(transfer, rooms, &Transferring::of(entries, rooms))?;
+        }
+    }
+    let longer = [n + 2, n + 1, n + 4];
+    comparison.transfers(transfer, longer, &Transferring::of(entries, longer))?;
+    comparison.transfers(transfer, [n; 3], &Transferring::of(entries, [n; 3]))
+}

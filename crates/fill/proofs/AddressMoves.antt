@@ -1,10 +1,10 @@
 -- How the local address moves from a position of an accepted section to one n positions on, of the same processor: with
 -- alignment stride 1, with section stride 1 or -1, over whole periods, and alike from the same column. Assumes nothing.
-use Prim.Native.Nat.{ℕ, _+_, _-_, _*_, _/_, _%_, _<_}
+use Prim.Native.Nat.{ℕ, _+_, _-_, _*_, _/_, _<_}
 use mathlib.Core.Path.{_≡_, sym, ap, _∙_, subst}
 use mathlib.Core.Bool.{Bool, true, false}
 use mathlib.Core.Logic.{_⊎_, inl, inr, ⊎-elim}
-use native.Mathlib.Nat.{div-add-mod', add-mod, add-mul-mod-self-right, eq-of-mul-eq-mul-right}
+use native.Mathlib.Nat.{div-add-mod', add-mul-mod-self-right, eq-of-mul-eq-mul-right}
 use native.Mathlib.Omega.{arith}
 use lib.Dec.{eqb}
 use lib.IntN.{natAbs}

@@ -1,6 +1,6 @@
 -- The moves that drive the walk of an accepted section: with alignment stride 1, with section stride 1 or -1, with one step,
 -- and without a step. Assumes nothing.
-use Prim.Native.Nat.{ℕ, _+_, _-_, _*_, _/_, _%_, _≤_, _<_}
+use Prim.Native.Nat.{ℕ, _+_, _*_, _/_, _%_, _≤_, _<_}
 use mathlib.Core.Path.{_≡_, refl, sym, ap, _∙_, subst}
 use mathlib.Core.Bool.{Bool, true, false}
 use mathlib.Core.Logic.{⊎-elim}
@@ -23,11 +23,8 @@ use Rattle.model.proofs.Rests.{le-or-lt}
 use Rattle.model.proofs.WalkLaws.{course}
 use Rattle.model.proofs.WalkTheorem.{going-nearest}
 use Rattle.model.proofs.ByteFillsHold.{address-low}
-use Rattle.fill.specs.declared.moves.Moves.{Moves}
-use Rattle.fill.specs.declared.moves.State.{State}
-use Rattle.fill.specs.Moving.{moveFrom}
-use Rattle.fill.specs.Driving.{Drives, Stands}
-use Rattle.fill.specs.SectionMoves.{columnAt, StandsAt, onward, movesOf, lineFar, lineMoves}
+use Rattle.walk.specs.Moving.{moveFrom}
+use Rattle.fill.specs.SectionMoves.{columnAt, onward, movesOf, lineFar, lineMoves}
 use Rattle.fill.specs.Starting.{Driven}
 use Rattle.fill.proofs.ShapeLaws.{LawOf, steps-law, Suited}
 use Rattle.fill.proofs.PaceLaws.{any-suits, shape-at, none-next, paces, stands-in}

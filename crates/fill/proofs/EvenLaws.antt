@@ -2,7 +2,7 @@
 -- that moves can be learnt.
 -- Assumes nothing.
 use Prim.Native.Nat.{ℕ, _+_, _-_, _*_, _/_, _%_, _≤_, _<_}
-use mathlib.Core.Path.{_≡_, refl, sym, ap, _∙_, subst}
+use mathlib.Core.Path.{_≡_, refl, sym, ap, subst}
 use mathlib.Core.Bool.{Bool, true, false, true≢false, cond}
 use mathlib.Core.Logic.{_⊎_, inl, inr, ⊎-elim}
 use native.Mathlib.Nat.{zero-add, le-mul-of-pos-right, mod-eq-of-lt, div-add-mod'}
@@ -19,14 +19,12 @@ use Rattle.model.specs.Calls.{walkOf}
 use Rattle.model.proofs.QuestionLaws.{accepted}
 use Rattle.model.proofs.SectionLaws.{Moved, index-moved, index-lt}
 use Rattle.model.proofs.Rests.{le-or-lt}
-use Rattle.fill.specs.declared.moves.Moves.{Moves}
-use Rattle.fill.specs.declared.moves.State.{State}
-use Rattle.fill.specs.Moving.{moveFrom, Small}
-use Rattle.fill.specs.Driving.{Stands}
-use Rattle.fill.specs.SectionMoves.{columnAt, StandsAt, movesOf, elementsOf}
+use Rattle.walk.specs.declared.moves.Moves.{Moves}
+use Rattle.walk.specs.Moving.{moveFrom, Small}
+use Rattle.fill.specs.SectionMoves.{columnAt, movesOf, elementsOf}
 use Rattle.fill.specs.Starting.{Evened}
-use Rattle.fill.specs.Learning.{shifted, elementAt, addressAt, Placed, periodOf, Even}
-use Rattle.fill.proofs.MoveLaws.{places-alike, columns-alike}
+use Rattle.walk.specs.Learning.{shifted, elementAt, addressAt, Placed, periodOf}
+use Rattle.walk.proofs.MoveLaws.{places-alike, columns-alike}
 use Rattle.fill.proofs.PaceLaws.{column-low, paces, stands-in}
 use Rattle.fill.proofs.AddressMoves.{strides-alike}
 

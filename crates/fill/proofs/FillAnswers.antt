@@ -21,7 +21,7 @@ use Rattle.model.specs.Calls.{FillCall, walkOf, requestOf, fill}
 use Rattle.model.specs.ByteFills.{ByteFill, inWords, storeEntries, bytesAfter}
 use Rattle.model.proofs.QuestionLaws.{both-yes}
 use Rattle.section.specs.Strides.{stridedOf}
-use Rattle.fill.specs.declared.moves.Report.{Report}
+use Rattle.walk.specs.declared.moves.Report.{Report}
 use Rattle.fill.specs.declared.ready.Start.{Start}
 use Rattle.fill.specs.declared.ready.Ready.{Ready}
 use Rattle.fill.specs.declared.ready.Ready.the-variants.{Go, Refused}

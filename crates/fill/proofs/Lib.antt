@@ -1,9 +1,5 @@
 -- Laws that several proofs of `fill` cite.
--- moves, and walks that they drive
-pub mod MoveLaws
-pub mod RunLaws
-pub mod BurstLaws
-pub mod ByteRuns
+-- a section's moves, and that its walk is driven by them
 pub mod ShapeLaws
 pub mod PaceLaws
 pub mod TallyLaws
@@ -11,10 +7,7 @@ pub mod ColumnClasses
 pub mod AddressMoves
 pub mod DriveLaws
 pub mod SmallMoves
-pub mod LearnLaws
 pub mod EvenLaws
-pub mod LearnRuns
-pub mod LearnBytes
 -- a fill's questions, its plan, its start, and its answers
 pub mod ReadyLaws
 pub mod PlanLaws

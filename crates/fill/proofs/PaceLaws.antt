@@ -22,12 +22,12 @@ use Rattle.model.proofs.Rests.{le-or-lt}
 use Rattle.model.proofs.CellOwners.{facing, column-lt}
 use Rattle.model.proofs.WalkLaws.{course, mirror}
 use Rattle.model.proofs.WalkTheorem.{Some, some-steps, going-nearest, next-by, turned}
-use Rattle.fill.specs.declared.moves.Moves.{Moves}
-use Rattle.fill.specs.declared.moves.State.{State}
-use Rattle.fill.specs.Moving.{Move, moveFrom, atMost}
-use Rattle.fill.specs.Driving.{Paces, Stands}
+use Rattle.walk.specs.declared.moves.Moves.{Moves}
+use Rattle.walk.specs.declared.moves.State.{State}
+use Rattle.walk.specs.Moving.{Move, moveFrom, atMost}
+use Rattle.walk.specs.Driving.{Paces, Stands}
 use Rattle.fill.specs.SectionMoves.{onWay, columnAt, StandsAt, movesBy, movesOf}
-use Rattle.fill.proofs.MoveLaws.{takes-first}
+use Rattle.walk.proofs.MoveLaws.{takes-first}
 use Rattle.fill.proofs.ShapeLaws.{Shape, Suited, shape}
 
 -- ---- columns

@@ -16,18 +16,17 @@ use Rattle.model.specs.declared.Steps.the-variants.{NoStep, OneStep, TwoSteps}
 use Rattle.model.specs.Ownership.{courseCells, ownerOf, held}
 use Rattle.model.specs.Sections.{layout, count}
 use Rattle.model.specs.Steps.{processorStep, returnStep, stepsBy, spread, stepsOf, upward}
-use Rattle.model.specs.Questions.{firstNo, ofSection}
 use Rattle.model.proofs.Rests.{le-or-lt}
 use Rattle.model.proofs.StepLaws.{processor-law, return-law, determinant}
 use Rattle.model.proofs.WalkLaws.{course}
 use Rattle.model.proofs.WalkTheorem.{Some, some-steps}
 use Rattle.section.specs.declared.questions.Strided.{Strided}
 use Rattle.section.specs.Strides.{Bounded, stridedOf, stepsIn}
-use Rattle.section.proofs.StridedSections.{bounded, spread-in, steps-in}
-use Rattle.fill.specs.declared.moves.Moves.{Moves}
+use Rattle.section.proofs.StridedSections.{bounded}
+use Rattle.walk.specs.declared.moves.Moves.{Moves}
 use Rattle.fill.specs.declared.plan.Plan.{Plan}
 use Rattle.fill.specs.declared.plan.Plan.the-variants.{Constant, Learnt}
-use Rattle.fill.specs.Moving.{Small}
+use Rattle.walk.specs.Moving.{Small}
 use Rattle.fill.specs.SectionMoves.{onward, movesBy, movesOf, lineNear, lineFar, lineMoves}
 use Rattle.fill.specs.Starting.{Taken, PlannedFor, Planned}
 use Rattle.fill.proofs.DriveLaws.{drives-none, drives-ones, drives-line, drives-one}

@@ -24,7 +24,7 @@ use Rattle.section.proofs.StridedLaws.{indices-fall, index-inside}
 use Rattle.section.proofs.StridedSections.{owned-at}
 use Rattle.section.proofs.CallAnswers.{passed, stopped}
 use Rattle.fill.specs.declared.ready.Ready.the-variants.{Refused}
-use Rattle.fill.specs.Learning.{shifted, elementAt, Placed}
+use Rattle.walk.specs.Learning.{shifted, elementAt, Placed}
 use Rattle.fill.specs.Starting.{elementsIn}
 use Rattle.fill.specs.Ready.{readyBy, readyOf, isPlaceIn, leftOf, readyIn, Started, SoundReady}
 

@@ -5,17 +5,16 @@ use mathlib.Core.Path.{_≡_, refl, sym, ap, _∙_}
 use mathlib.Core.Bool.{Bool, true, false, cond}
 use native.Mathlib.Nat.{div-eq-of-eq-mul-left}
 use native.Mathlib.Omega.{arith}
-use lib.Dec.{leb, ltb}
-use borrow.Author.Tests.{leb-true, leb-false, ltb-true, ltb-false, le-leb}
-use Rattle.numbers.specs.Gcd.{gcd}
+use lib.Dec.{leb}
+use borrow.Author.Tests.{leb-true, leb-false, le-leb}
 use Rattle.model.specs.declared.Step.{Step}
 use Rattle.model.specs.declared.Steps.{Steps}
 use Rattle.model.specs.declared.Steps.the-variants.{NoStep, OneStep, TwoSteps}
-use Rattle.model.specs.Steps.{processorStep, returnStep, oneStep, stepsBy, Going, goOn}
+use Rattle.model.specs.Steps.{stepsBy, Going, goOn}
 use Rattle.model.proofs.Rests.{Course}
 use Rattle.model.proofs.WalkTheorem.{Some, some-steps}
-use Rattle.model.proofs.StepLaws.{ProcessorLaw, ReturnLaw, OneLaw, processor-law, return-law, one-law}
-use Rattle.fill.specs.Moving.{Move, moveFrom}
+use Rattle.model.proofs.StepLaws.{step-cases, ProcessorLaw, ReturnLaw, OneLaw, processor-law, return-law, one-law}
+use Rattle.walk.specs.Moving.{Move, moveFrom}
 use Rattle.fill.specs.SectionMoves.{movesBy}
 
 -- The move g from column q is the step o: so many positions of S cells, c courses of M cells, and y₁ - y₂ columns. What it
@@ -43,14 +42,8 @@ LawOf M k S (OneStep a) = OneLaw M k S a
 LawOf M k S (TwoSteps r w) = ProcessorLaw M k S r × ReturnLaw M k S w
 
 pub steps-law : {M k S : ℕ} → Course M k S → (n : ℕ) → LawOf M k S (stepsBy n M k S)
-unfolding stepsBy
-steps-law {M} {k} {S} h n = go (ltb n 2) (ltb (gcd S M) k) refl
-  where
-    go : (a b : Bool) → ltb (gcd S M) k ≡ b
-        → LawOf M k S (cond a NoStep (cond b (TwoSteps (processorStep M k S) (returnStep M k S)) (OneStep (oneStep M S))))
-    go true b e = tt
-    go false true e = let d = ltb-true (gcd S M) k e in (processor-law h d, return-law h d)
-    go false false e = one-law h (ltb-false (gcd S M) k e)
+steps-law {M} {k} {S} h n =
+    step-cases (LawOf M k S) n M k S (λ l. tt) (λ l d. (processor-law h d, return-law h d)) (λ l d. one-law h d)
 
 -- ---- shapes
 

@@ -1,12 +1,10 @@
 -- The moves of an accepted section are within the limits that a fill asks. Assumes nothing.
 use Prim.Native.Nat.{ℕ, _*_, _/_, _%_, _≤_, _<_, zero-le}
-use mathlib.Core.Path.{_≡_, refl}
-use mathlib.Core.Bool.{Bool, true, false, cond}
+use mathlib.Core.Path.{_≡_}
+use mathlib.Core.Bool.{Bool, true, false}
 use mathlib.Core.Logic.{inl}
 use native.Mathlib.Nat.{mod-lt, mul-div-cancel, mul-mod-right, div-eq-of-eq-mul-left, le-of-mul-le-mul-right}
 use native.Mathlib.Omega.{arith}
-use lib.Dec.{ltb}
-use borrow.Author.Tests.{ltb-false}
 use Rattle.numbers.specs.Gcd.{gcd}
 use Rattle.numbers.proofs.SearchLaws.{head-le}
 use Rattle.model.specs.declared.Section.{Section}
@@ -20,9 +18,9 @@ use Rattle.model.proofs.QuestionLaws.{accepted}
 use Rattle.model.proofs.SizedLaws.{course-high}
 use Rattle.model.proofs.SectionLaws.{spread-pos}
 use Rattle.model.proofs.Rests.{Course}
-use Rattle.model.proofs.StepLaws.{one-law}
+use Rattle.model.proofs.StepLaws.{step-cases, one-law}
 use Rattle.model.proofs.WalkLaws.{course}
-use Rattle.fill.specs.Moving.{Small}
+use Rattle.walk.specs.Moving.{Small}
 use Rattle.fill.specs.SectionMoves.{onward, movesBy, movesOf}
 use Rattle.fill.proofs.ShapeLaws.{LawOf, steps-law}
 
@@ -58,13 +56,7 @@ module _ {M k S : ℕ} (h : Course M k S) where
       (le-of-mul-le-mul-right {m = l .multiple .index} {n = M} {k = S} (omega (arith, l .multiple .cells)) (h .spread-pos))
 
   few : (n : ℕ) → Few M S (stepsBy n M k S)
-  unfolding stepsBy
-  few n = go (ltb n 2) (ltb (gcd S M) k) refl
-    where
-      go : (a b : Bool) → ltb (gcd S M) k ≡ b → Few M S (cond a NoStep (cond b (TwoSteps (processorStep M k S) (returnStep M k S)) (OneStep (oneStep M S))))
-      go true b e = tt
-      go false true e = (processor-few, return-few)
-      go false false e = one-few (ltb-false (gcd S M) k e)
+  few n = step-cases (Few M S) n M k S (λ l. tt) (λ l d. (processor-few, return-few)) (λ l d. one-few d)
 
 -- ---- an accepted section
 module _ (x : Section) (ok : firstNo (ofSection x) ≡ 0) where

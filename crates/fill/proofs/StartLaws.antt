@@ -15,19 +15,19 @@ use Rattle.model.specs.Questions.{firstNo, ofSection}
 use Rattle.model.specs.Calls.{walkOf}
 use Rattle.model.proofs.ByteFillsHold.{address-low}
 use Rattle.section.specs.declared.questions.Strided.{Strided}
-use Rattle.section.specs.Strides.{Bounded, stridedOf, ownedAt}
+use Rattle.section.specs.Strides.{stridedOf, ownedAt}
 use Rattle.section.proofs.StridedSections.{owned-at}
-use Rattle.fill.specs.declared.moves.Moves.{Moves}
-use Rattle.fill.specs.declared.moves.State.{State}
-use Rattle.fill.specs.declared.moves.Report.{Report}
+use Rattle.walk.specs.declared.moves.Moves.{Moves}
+use Rattle.walk.specs.declared.moves.State.{State}
+use Rattle.walk.specs.declared.moves.Report.{Report}
 use Rattle.fill.specs.declared.ready.Start.{Start}
-use Rattle.fill.specs.declared.learning.Elements.{Elements}
+use Rattle.walk.specs.declared.learning.Elements.{Elements}
 use Rattle.fill.specs.declared.plan.Plan.the-variants.{Constant, Learnt}
-use Rattle.fill.specs.Moving.{Small}
-use Rattle.fill.specs.Bursts.{Starts}
+use Rattle.walk.specs.Moving.{Small}
+use Rattle.walk.specs.Bursts.{Starts}
 use Rattle.fill.specs.SectionMoves.{onWay, columnAt, StandsAt}
-use Rattle.fill.specs.Driving.{Drives, Stands, Fills, ByteFilled, FillsBytes}
-use Rattle.fill.specs.Learning.{elementAt, Even, FillsEven, FillsBytesEven}
+use Rattle.walk.specs.Driving.{Drives, Stands, Fills, ByteFilled, FillsBytes}
+use Rattle.walk.specs.Learning.{elementAt, Even, FillsEven, FillsBytesEven}
 use Rattle.fill.specs.Starting.{Planned, Accepted, elementsIn, StateOf}
 use Rattle.fill.specs.Ready.{FillsFrom, FillsBytesFrom}
 use Rattle.fill.proofs.EvenLaws.{element-is}

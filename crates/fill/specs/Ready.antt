@@ -15,11 +15,11 @@ use Rattle.model.specs.Filling.{fillBy}
 use Rattle.model.specs.Calls.{walkOf}
 use Rattle.section.specs.declared.questions.Strided.{Strided}
 use Rattle.section.specs.Strides.{stridedOf, ownedAt, Bounded}
-use Rattle.fill.specs.declared.moves.Report.{Report}
+use Rattle.walk.specs.declared.moves.Report.{Report}
 use Rattle.fill.specs.declared.ready.Start.{Start}
 use Rattle.fill.specs.declared.ready.Ready.{Ready}
 use Rattle.fill.specs.declared.ready.Ready.the-variants.{Go, Refused}
-use Rattle.fill.specs.Driving.{ByteFilled}
+use Rattle.walk.specs.Driving.{ByteFilled}
 
 -- ---- the questions
 

@@ -10,9 +10,9 @@ use Rattle.model.specs.declared.Steps.the-variants.{NoStep, OneStep, TwoSteps}
 use Rattle.model.specs.Ownership.{columnOf}
 use Rattle.model.specs.Sections.{layout, count, index, cell, address, ownsAt}
 use Rattle.model.specs.Steps.{spread, stepsOf, upward}
-use Rattle.fill.specs.declared.moves.Moves.{Moves}
-use Rattle.fill.specs.declared.moves.State.{State}
-use Rattle.fill.specs.declared.learning.Elements.{Elements}
+use Rattle.walk.specs.declared.moves.Moves.{Moves}
+use Rattle.walk.specs.declared.moves.State.{State}
+use Rattle.walk.specs.declared.learning.Elements.{Elements}
 
 -- a column of k, counted in walking direction
 abbrev pub onWay : Bool → ℕ → ℕ → ℕ

@@ -7,16 +7,16 @@ use Rattle.model.specs.Questions.{firstNo, ofSection}
 use Rattle.model.specs.Calls.{walkOf}
 use Rattle.section.specs.declared.questions.Strided.{Strided}
 use Rattle.section.specs.Strides.{stridedOf}
-use Rattle.fill.specs.declared.moves.Moves.{Moves}
-use Rattle.fill.specs.declared.moves.State.{State}
-use Rattle.fill.specs.declared.learning.Elements.{Elements}
+use Rattle.walk.specs.declared.moves.Moves.{Moves}
+use Rattle.walk.specs.declared.moves.State.{State}
+use Rattle.walk.specs.declared.learning.Elements.{Elements}
 use Rattle.fill.specs.declared.ready.Start.{Start}
 use Rattle.fill.specs.declared.plan.Plan.{Plan}
 use Rattle.fill.specs.declared.plan.Plan.the-variants.{Constant, Learnt}
-use Rattle.fill.specs.Moving.{Small}
-use Rattle.fill.specs.Driving.{Drives, Stands}
+use Rattle.walk.specs.Moving.{Small}
+use Rattle.walk.specs.Driving.{Drives, Stands}
 use Rattle.fill.specs.SectionMoves.{StandsAt, elementsOf}
-use Rattle.fill.specs.Learning.{Even}
+use Rattle.walk.specs.Learning.{Even}
 use Rattle.fill.specs.Ready.{Started}
 
 -- w is an accepted section, on natural numbers

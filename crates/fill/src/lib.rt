@@ -1,25 +1,19 @@
 // Fills of a lent list with a processor's addresses in a section, into 32-bit words and into
-// bytes. The questions are put in ready.rt; the loops know nothing of sections: their walk is
-// any that the moves drive, and a turn only adds and compares.
+// bytes. The questions are put in ready.rt; plan.rt finds the moves that drive the section's
+// walk, and start.rt hands them to the loops of the crate walk.
 ghost use mathlib.Core.Path.{_≡_};
 ghost use Rattle.model.specs.Calls as calls;
 ghost use Rattle.fill.specs.Answers.{outcomeAs, FilledBytes};
 use model::Section;
-use moves::Report;
 use ready::Ready;
 use ready::ask_fill;
 use start::fill_bytes_from;
 use start::fill_from;
+use walk::moves::Report;
 
-pub mod bytes;
-pub mod learning;
-pub mod learning_bytes;
-pub mod learning_words;
-pub mod moves;
 pub mod plan;
 pub mod ready;
 pub mod start;
-pub mod words;
 
 // What a fill reports, or the number of the question that was answered no.
 pub enum Filled {

@@ -1,6 +1,5 @@
 // How a fill of an accepted section moves: by constant moves where the same number is added
 // to the address along each step, else by moves that are learnt.
-use crate::moves::Moves;
 use mapping::dealing::held_below;
 use model::Index;
 use model::Step;
@@ -8,6 +7,8 @@ use model::Steps;
 use section::questions::Strided;
 use section::steps::steps_of;
 use section::strides::spread_of;
+use walk::moves::Moves;
+use walk::moves::{self};
 ghost use mathlib.Core.Path.{_≡_};
 ghost use Prim.Native.Nat.{ℕ, _*_, _<_};
 ghost use Rattle.model.specs.Ownership.{ownerOf, held};
@@ -15,18 +16,15 @@ ghost use Rattle.section.specs.Strides.{Bounded, stepsIn};
 ghost use Rattle.fill.specs.SectionMoves.{onward, movesBy, lineMoves};
 ghost use Rattle.fill.specs.Starting.{Taken, Planned};
 
-// Addresses are added modulo this.
-const ADDRESSES: u64 = 4294967296;
-
 // What is added to an address to go d on.
 fn onward_by(up: bool, d: u64) -> u64
     ensures { λ r. ⌜ r ≡ onward up d ⌝ }
 {
-    let rest = d % ADDRESSES;
+    let rest = d % moves::ADDRESSES;
     if up {
         return rest;
     }
-    (ADDRESSES - rest) % ADDRESSES
+    (moves::ADDRESSES - rest) % moves::ADDRESSES
 }
 
 // The moves by the steps of a section with blocks of k cells and so many cells between two

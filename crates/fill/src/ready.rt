@@ -1,7 +1,5 @@
 // Questions 8, 10 and 11 of a fill, on whatever numbers a caller passes, after those about
 // the section; and the fill that passes them, on natural numbers.
-use crate::learning::Elements;
-use crate::learning::element_at;
 use mapping::dealing::cell_of;
 use mapping::dealing::owner_of;
 use mapping::questions::natural;
@@ -12,6 +10,8 @@ use section::questions::Asked;
 use section::questions::Strided;
 use section::questions::ask_section;
 use section::questions::is_processor;
+use walk::learning::Elements;
+use walk::learning::element_at;
 ghost use mathlib.Core.Path.{_≡_};
 ghost use Prim.Native.Nat.{_<_};
 ghost use Rattle.section.specs.Strides.{Bounded, ownedAt};

@@ -1,20 +1,20 @@
 // The fill of an accepted section: where it stands at its place, and the loop for its plan.
-use crate::bytes::fill_bytes;
-use crate::learning::Elements;
-use crate::learning::element_at;
-use crate::learning_bytes::fill_bytes_learning;
-use crate::learning_words::fill_words_learning;
-use crate::moves::Report;
-use crate::moves::State;
 use crate::plan::Plan;
 use crate::plan::plan_of;
 use crate::ready::Start;
-use crate::words::fill_words;
 use mapping::dealing::cell_of;
 use mapping::dealing::local_address;
 use model::Address;
 use model::Cell;
 use section::questions::Strided;
+use walk::bytes::fill_bytes;
+use walk::learning::Elements;
+use walk::learning::element_at;
+use walk::learning_bytes::fill_bytes_learning;
+use walk::learning_words::fill_words_learning;
+use walk::moves::Report;
+use walk::moves::State;
+use walk::words::fill_words;
 ghost use mathlib.Core.Path.{_≡_};
 ghost use Rattle.model.specs.Ownership.{columnOf};
 ghost use Rattle.section.specs.Strides.{Bounded};

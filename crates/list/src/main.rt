@@ -1,5 +1,6 @@
 // The program `list`: reads a sheet from standard input, and writes every processor's list of
-// addresses for each of its sections.
+// addresses for each of its sections, or the refusal. The crate print makes the text, piece by
+// piece; here it is only read, looped and written.
 ghost use Rattle.print.specs.Turns.{Room};
 use print::pieces::first_piece;
 use print::pieces::next_piece;

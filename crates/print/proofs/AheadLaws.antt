@@ -10,7 +10,7 @@ use Rattle.numbers.specs.Search.{tally, passing, headOr, sum}
 use Rattle.numbers.proofs.SearchLaws.{tally-none, tally-le, tally-same, passing-yes, passing-no, passing-none, passing-length, sum-append}
 use Rattle.model.specs.declared.Section.{Section}
 use Rattle.model.specs.declared.Position.{Position}
-use Rattle.model.specs.Sections.{layout, count, ownsAt, places, firstPlace}
+use Rattle.model.specs.Sections.{count, ownsAt, places, firstPlace}
 use Rattle.model.specs.Steps.{cost}
 use Rattle.model.specs.Questions.{firstNo, ofSection}
 use Rattle.model.specs.Calls.{walkOf}

@@ -1,5 +1,5 @@
 -- Where there is nothing to name: no well-formed sheet has a line there, and in the count every byte but `0` fails at once.
-use Prim.Native.Nat.{ℕ, _-_, _<_}
+use Prim.Native.Nat.{ℕ, _<_}
 use mathlib.Core.Path.{_≡_, refl}
 use mathlib.Core.Bool.{Bool, true, false}
 use mathlib.Core.List.{List, [], _∷_, _++_, map}

@@ -5,7 +5,6 @@ use mathlib.Core.Path.{_≡_, sym, ap, _∙_, subst}
 use mathlib.Core.Bool.{true, _&&_, and-comm}
 use Rattle.numbers.specs.Search.{passing, headOr}
 use Rattle.numbers.proofs.SearchLaws.{passing-same}
-use Rattle.model.specs.Sections.{count}
 use Rattle.section.specs.declared.questions.Strided.{Strided}
 use Rattle.section.specs.Strides.{stridedOf, Bounded, ownedAt}
 use Rattle.section.specs.Going.{nextIn}

@@ -1,6 +1,5 @@
 -- `line_moves` meets its contract: courses and columns are small, so that the sums fit.
-use Prim.Native.Nat.{ℕ, _+_, _-_, _*_}
-use mathlib.Core.Path.{_≡_, _∙_}
+use mathlib.Core.Path.{_∙_}
 use native.Mathlib.Omega.{arith}
 use borrow.Author.Needs.{needs}
 use Rattle.model.specs.declared.Steps.the-variants.{TwoSteps}

@@ -1,5 +1,4 @@
 -- `moves_by` meets its contract.
-use mathlib.Core.Path.{_≡_}
 use borrow.Author.Needs.{needs}
 use Rattle.fill.specs.SectionMoves.{movesBy}
 use Rattle.fill.proofs.plan.moves_by.Statement.{statement}

@@ -1,6 +1,6 @@
 -- `one_plan` meets its contract.
 use Prim.Native.Nat.{ℕ, _/_}
-use mathlib.Core.Path.{_≡_, ap}
+use mathlib.Core.Path.{ap}
 use native.Mathlib.Omega.{arith}
 use borrow.Author.Needs.{needs}
 use Rattle.fill.proofs.PlanLaws.{taken-bounded, taken-spread, one-planned}

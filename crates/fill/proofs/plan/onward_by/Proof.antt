@@ -1,8 +1,5 @@
 -- `onward_by` meets its contract.
-use mathlib.Core.Path.{_≡_}
-use mathlib.Core.Bool.{Bool, true, false}
 use borrow.Author.Needs.{needs}
-use Rattle.fill.specs.SectionMoves.{onward}
 use Rattle.fill.proofs.plan.onward_by.Statement.{statement}
 use Rattle.fill.proofs.plan.onward_by.Tie as tie
 

@@ -7,7 +7,6 @@ use native.Mathlib.Omega.{arith}
 use borrow.Author.Needs.{needs}
 use Rattle.section.specs.declared.questions.Strided.{Strided}
 use Rattle.section.specs.Strides.{Bounded}
-use Rattle.mapping.specs.Bounds.{Below}
 use Rattle.fill.proofs.plan.period.Statement.{statement}
 use Rattle.fill.proofs.plan.period.Tie as tie
 

@@ -1,5 +1,5 @@
 -- `plan_of` meets its contract.
-use mathlib.Core.Path.{_≡_, sym, _∙_}
+use mathlib.Core.Path.{sym, _∙_}
 use borrow.Author.Needs.{needs}
 use Rattle.fill.proofs.PlanLaws.{taken-bounded, ones-planned, none-planned}
 use Rattle.fill.proofs.plan.plan_of.Statement.{statement}

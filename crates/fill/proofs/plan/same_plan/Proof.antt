@@ -1,5 +1,5 @@
 -- `same_plan` meets its contract.
-use mathlib.Core.Path.{_≡_, ap, _∙_}
+use mathlib.Core.Path.{ap, _∙_}
 use native.Mathlib.Omega.{arith}
 use Rattle.fill.specs.declared.plan.Plan.the-variants.{Constant}
 use Rattle.fill.specs.SectionMoves.{movesBy}

@@ -1,10 +1,8 @@
 -- `column_of` meets its contract.
-use mathlib.Core.Path.{_≡_}
 use native.Mathlib.Nat.{mod-lt}
 use native.Mathlib.Omega.{arith}
 use borrow.Author.Needs.{needs}
 use Rattle.model.specs.Ownership.{columnOf}
-use Rattle.fill.specs.SectionMoves.{onWay}
 use Rattle.fill.proofs.start.column_of.Statement.{statement}
 use Rattle.fill.proofs.start.column_of.Tie as tie
 

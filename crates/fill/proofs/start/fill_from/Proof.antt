@@ -1,9 +1,9 @@
 -- `fill_from` meets its contract: the loop that the plan names gives the fill along the section's walk.
-use mathlib.Core.Path.{_≡_, sym, subst}
+use mathlib.Core.Path.{sym, subst}
 use borrow.Author.Needs.{needs}
-use Rattle.fill.specs.declared.learning.Elements.{Elements}
+use Rattle.walk.specs.declared.learning.Elements.{Elements}
 use Rattle.fill.specs.declared.plan.Plan.the-variants.{Constant, Learnt}
-use Rattle.fill.specs.Learning.{Placed}
+use Rattle.walk.specs.Learning.{Placed}
 use Rattle.fill.specs.Starting.{Planned}
 use Rattle.fill.proofs.ReadyLaws.{elements-placed}
 use Rattle.fill.proofs.StartLaws.{constant-starts, learnt-starts, words-constant, words-learnt}

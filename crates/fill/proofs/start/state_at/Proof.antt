@@ -3,9 +3,9 @@ use mathlib.Core.Path.{_≡_, sym, ap, _∙_, subst}
 use native.Mathlib.Nat.{le-of-lt}
 use native.Mathlib.Omega.{arith}
 use borrow.Author.Needs.{needs}
-use Prim.Native.Nat.{ℕ, _<_}
-use Rattle.fill.specs.declared.learning.Elements.{Elements}
-use Rattle.fill.specs.Learning.{elementAt, Placed}
+use Prim.Native.Nat.{_<_}
+use Rattle.walk.specs.declared.learning.Elements.{Elements}
+use Rattle.walk.specs.Learning.{elementAt, Placed}
 use Rattle.fill.specs.Starting.{elementsIn}
 use Rattle.fill.proofs.ReadyLaws.{elements-placed}
 use Rattle.fill.proofs.StartLaws.{state-past, state-on}

@@ -1,5 +1,4 @@
 -- `fields_of` meets its contract: each case has its fields, and its number fits the field.
-use Prim.Native.Nat.{_^_, _<_}
 use mathlib.Core.Path.{sym, ap, subst}
 use borrow.Author.Needs.{needs}
 use Rattle.transfer.specs.Answers.{transferredAs}

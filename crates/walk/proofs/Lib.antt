@@ -1,0 +1,10 @@
+-- Laws that several proofs of `walk` cite.
+pub mod MoveLaws
+pub mod RunLaws
+-- constant moves
+pub mod BurstLaws
+pub mod ByteRuns
+-- moves that are learnt
+pub mod LearnLaws
+pub mod LearnRuns
+pub mod LearnBytes

@@ -1,0 +1,88 @@
+-- `tested_burst` meets its contract.
+use Prim.Native.Nat.{_-_}
+use mathlib.Core.Logic.{inl, inr}
+use native.Mathlib.Omega.{arith}
+use borrow.Author.Needs.{needs}
+use Rattle.model.specs.ByteFills.{storeEntry}
+use Rattle.walk.specs.Moving.{Small, Sound, Roomy}
+use Rattle.walk.proofs.BurstLaws.{Bursting, bursting-starts, bursting-turns, bursting-ends, bursting-steps}
+use Rattle.walk.proofs.ByteRuns.{entry-length}
+use Rattle.walk.proofs.bytes.tested_burst.Statement.{statement}
+use Rattle.walk.proofs.bytes.tested_burst.Tie as tie
+
+abbrev Inv-loop : tie.InvT-loop
+Inv-loop m count list₀ from turns s₀ i₀ list s i = Bursting storeEntry m count list₀ from turns s₀ list s i
+
+abbrev μ-loop : tie.MeasureT-loop
+μ-loop m count list₀ from turns s₀ i₀ list s i = turns - i
+
+-- what is known before each turn's step
+ready : (c : tie.Else1 Inv-loop μ-loop)
+    → Small (c .before .before .before .before .before .args .m)
+    × Sound (c .before .before .before .before .before .args .m) (c .before .before .before .loop .s)
+    × Roomy (c .before .before .before .loop .s)
+ready c =
+    let b = c .before .before in
+    bursting-steps storeEntry entry-length _ _ (b .before .loop .inv) (b .before .before .before .pre .0) (b .loop-test .taken) (c .if1 .left)
+
+loop-holds : tie.Need-loop-holds Inv-loop μ-loop
+loop-holds c = bursting-starts storeEntry entry-length _ _
+
+add-put-entry : tie.Need-add-put-entry Inv-loop μ-loop
+add-put-entry c = search needs
+
+cast-put-entry : tie.Need-cast-put-entry Inv-loop μ-loop
+cast-put-entry c = omega (arith, ready (c .before .before) .1 .address)
+
+put-entry-requires : tie.Need-put-entry-requires Inv-loop μ-loop
+put-entry-requires c κs = search needs
+
+step-requires : tie.Need-step-requires Inv-loop μ-loop
+step-requires c κs = ready (c .before .before .before .before .before)
+
+add-i : tie.Need-add-i Inv-loop μ-loop
+add-i c = search needs
+
+loop-less : tie.Need-loop-less Inv-loop μ-loop
+loop-less c = search needs
+
+loop-again : tie.Need-loop-again Inv-loop μ-loop
+loop-again c =
+    let p = c .before .before .before in
+    let e = p .before .before .before in
+    let b = e .before .before in
+    rw (p .put-entry .ensures, c .step .ensures)
+    (bursting-turns storeEntry entry-length _ _ (b .before .loop .inv) (b .loop-test .taken) (e .if1 .left))
+
+same-length : tie.Need-same-length Inv-loop μ-loop
+same-length c = search needs
+
+returns : tie.Need-returns Inv-loop μ-loop
+returns c = bursting-ends storeEntry entry-length _ _ (c .before .loop .inv) (c .before .before .before .pre .0) (inl (c .loop-test .left))
+
+same-length-2 : tie.Need-same-length-2 Inv-loop μ-loop
+same-length-2 c = search needs
+
+returns-2 : tie.Need-returns-2 Inv-loop μ-loop
+returns-2 c =
+    let b = c .before .before .before in
+    bursting-ends storeEntry entry-length _ _ (b .loop .inv) (b .before .before .pre .0) (inr (c .if1 .taken))
+
+pub tested-burst-spec : {M : Type 1} → statement M
+tested-burst-spec =
+    tie.close
+    (tie.spec
+    Inv-loop
+    μ-loop
+    loop-holds
+    add-put-entry
+    cast-put-entry
+    put-entry-requires
+    step-requires
+    add-i
+    loop-less
+    loop-again
+    same-length
+    returns
+    same-length-2
+    returns-2)

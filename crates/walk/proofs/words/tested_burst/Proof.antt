@@ -1,0 +1,89 @@
+-- `tested_burst` meets its contract.
+use Prim.Native.Nat.{_-_}
+use mathlib.Core.Logic.{inl, inr}
+use native.Mathlib.Omega.{arith}
+use lib.ListN.{set, length-set}
+use borrow.Author.Needs.{needs}
+use Rattle.walk.specs.Moving.{Small, Sound, Roomy}
+use Rattle.walk.proofs.BurstLaws.{Bursting, bursting-starts, bursting-turns, bursting-ends, bursting-steps}
+use Rattle.walk.proofs.words.tested_burst.Statement.{statement}
+use Rattle.walk.proofs.words.tested_burst.Tie as tie
+
+abbrev Inv-loop : tie.InvT-loop
+Inv-loop m count list₀ from turns s₀ i₀ list s i = Bursting set m count list₀ from turns s₀ list s i
+
+abbrev μ-loop : tie.MeasureT-loop
+μ-loop m count list₀ from turns s₀ i₀ list s i = turns - i
+
+-- what is known before each turn's step
+ready : (c : tie.Else1 Inv-loop μ-loop)
+    → Small (c .before .before .before .before .before .args .m)
+    × Sound (c .before .before .before .before .before .args .m) (c .before .before .before .loop .s)
+    × Roomy (c .before .before .before .loop .s)
+ready c =
+    let b = c .before .before in
+    bursting-steps set length-set _ _ (b .before .loop .inv) (b .before .before .before .pre .0) (b .loop-test .taken) (c .if1 .left)
+
+loop-holds : tie.Need-loop-holds Inv-loop μ-loop
+loop-holds c = bursting-starts set length-set _ _
+
+cast-list : tie.Need-cast-list Inv-loop μ-loop
+cast-list c = omega (arith, ready (c .before) .1 .address)
+
+add-list : tie.Need-add-list Inv-loop μ-loop
+add-list c = search needs
+
+mul-list : tie.Need-mul-list Inv-loop μ-loop
+mul-list c = search needs
+
+slice-write-list : tie.Need-slice-write-list Inv-loop μ-loop
+slice-write-list c = search needs
+
+step-requires : tie.Need-step-requires Inv-loop μ-loop
+step-requires c κs = ready (c .before)
+
+add-i : tie.Need-add-i Inv-loop μ-loop
+add-i c = search needs
+
+loop-less : tie.Need-loop-less Inv-loop μ-loop
+loop-less c = search needs
+
+loop-again : tie.Need-loop-again Inv-loop μ-loop
+loop-again c =
+    let e = c .before .before in
+    let b = e .before .before in
+    rw (c .step .ensures) (bursting-turns set length-set _ _ (b .before .loop .inv) (b .loop-test .taken) (e .if1 .left))
+
+same-length : tie.Need-same-length Inv-loop μ-loop
+same-length c = search needs
+
+returns : tie.Need-returns Inv-loop μ-loop
+returns c = bursting-ends set length-set _ _ (c .before .loop .inv) (c .before .before .before .pre .0) (inl (c .loop-test .left))
+
+same-length-2 : tie.Need-same-length-2 Inv-loop μ-loop
+same-length-2 c = search needs
+
+returns-2 : tie.Need-returns-2 Inv-loop μ-loop
+returns-2 c =
+    let b = c .before .before .before in
+    bursting-ends set length-set _ _ (b .loop .inv) (b .before .before .pre .0) (inr (c .if1 .taken))
+
+pub tested-burst-spec : {M : Type 1} → statement M
+tested-burst-spec =
+    tie.close
+    (tie.spec
+    Inv-loop
+    μ-loop
+    loop-holds
+    cast-list
+    add-list
+    mul-list
+    slice-write-list
+    step-requires
+    add-i
+    loop-less
+    loop-again
+    same-length
+    returns
+    same-length-2
+    returns-2)

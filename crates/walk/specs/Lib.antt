@@ -1,0 +1,5 @@
+-- The definitions that the contracts of `walk` cite.
+pub mod Moving
+pub mod Driving
+pub mod Bursts
+pub mod Learning

@@ -28,7 +28,8 @@ void walk_tables(const move_table *m, const address_table *t, const input *in, i
                  size_t entries)
 {
     int64_t cell = cell_of(in, position);
-    uint32_t address = address_of(t, in, cell), column = (uint32_t)(cell % in->block);
+    uint32_t address = address_of(t, in, cell);
+    size_t column = (size_t)(cell % in->block); /* as wide as an index: a narrower one is widened at each turn */
     for (size_t i = 0; i < entries; i++) {
         list[i] = address;
         address += m->move[column];

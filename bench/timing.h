@@ -37,7 +37,7 @@ static inline int64_t calls_of_batch(const void *context, timed_call *call)
 /* nanoseconds per call of each way, 0 for a way that there is not; a call that takes long is made twice only */
 static inline void time_ways(const void *context, timed_call *const ways[], int count, double times[])
 {
-    enum { ROUNDS = 11, MOST_WAYS = 8 };
+    enum { ROUNDS = 33, MOST_WAYS = 8 };
     const double long_call = 2e6;
     int64_t calls[MOST_WAYS];
     for (int way = 0; way < count; way++) {

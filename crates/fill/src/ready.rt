@@ -1,20 +1,16 @@
 // Questions 8, 10 and 11 of a fill, on whatever numbers a caller passes, after those about
 // the section; and the fill that passes them, on natural numbers.
-use mapping::dealing::cell_of;
-use mapping::dealing::owner_of;
 use mapping::questions::natural;
 use mapping::questions::within;
 use model::Position;
 use model::Section;
+use section::positions::owned_at;
 use section::questions::Asked;
 use section::questions::Strided;
 use section::questions::ask_section;
 use section::questions::is_processor;
-use walk::learning::Elements;
-use walk::learning::element_at;
 ghost use mathlib.Core.Path.{_≡_};
-ghost use Prim.Native.Nat.{_<_};
-ghost use Rattle.section.specs.Strides.{Bounded, ownedAt};
+ghost use Rattle.section.specs.Strides.{Bounded};
 ghost use Rattle.fill.specs.Ready.{isPlaceIn, readyIn, readyOf, SoundReady};
 
 // A fill that passed its questions: its section, the processor, the place to start from and
@@ -32,21 +28,6 @@ pub enum Ready {
     Refused(u32),
 }
 
-// Does processor q own the element at position t?
-fn owns_place(w: Strided, q: u64, t: Position) -> bool
-    requires { ⌜ Bounded w × (t .0 < w .count) ⌝ }
-    ensures { λ r. ⌜ r ≡ ownedAt w q (t .0) ⌝ }
-{
-    let l = w.layout;
-    let e = Elements {
-        layout: l,
-        first: w.first,
-        stride: w.stride,
-        upward: w.upward,
-    };
-    owner_of(l, cell_of(l, element_at(e, w.count, t))) == q
-}
-
 // Question 10: is the place the count, or a position whose element the processor owns?
 fn is_place(w: Strided, q: u64, place: i64) -> bool
     requires { ⌜ Bounded w ⌝ }
@@ -62,7 +43,7 @@ fn is_place(w: Strided, q: u64, place: i64) -> bool
     if w.count < t {
         return false;
     }
-    owns_place(w, q, Position(t))
+    owned_at(w, q, Position(t))
 }
 
 // Questions 8, 10 and 11, and the fill that passes them.

@@ -14,7 +14,7 @@ use Rattle.model.specs.ByteFills.{storeEntry, storeEntries}
 use Rattle.model.proofs.ByteStores.{stores-last}
 use Rattle.walk.specs.declared.moves.Moves.{Moves}
 use Rattle.walk.specs.declared.moves.State.{State}
-use Rattle.walk.specs.Moving.{stopAt, Small, Sound}
+use Rattle.walk.specs.Moving.{addFrom, stopAt, Small, Sound}
 use Rattle.walk.specs.Driving.{FillsBytes}
 use Rattle.walk.specs.Bursts.{stepsOn, burstBy, Sure, Starts}
 use Rattle.walk.proofs.RunLaws.{Runs, run-starts, run-ends}
@@ -36,25 +36,25 @@ stored-next bs₀ bs n a s h l =
     (ap (λ (k : List ℕ). storeEntry k n a) s)
 
 -- a burst's words are those of the burst into words, and what it stored comes after
-module _ (m : Moves) (small : Small m) (s : State) (v : Sound m s) (bs₀ bs : List ℕ) (from : ℕ) where
-  inside : (n : ℕ) → from + suc n ≤ length bs / 4 → from + n < length (burstBy storeEntry m bs from n s) / 4
-  inside n h = rw (burst-length storeEntry entry-length m bs from n s) (omega arith)
+module _ (m : Moves) (small : Small m) (δ : ℕ → ℕ) (s : State) (v : Sound m s) (bs₀ bs : List ℕ) (from : ℕ) where
+  inside : (n : ℕ) → from + suc n ≤ length bs / 4 → from + n < length (burstBy storeEntry m δ bs from n s) / 4
+  inside n h = rw (burst-length storeEntry entry-length m δ bs from n s) (omega arith)
 
-  low : (n : ℕ) → stepsOn m n s .address .0 < 256 ^ 4
-  low n = steps-within m small s v n .sound .address
+  low : (n : ℕ) → stepsOn m δ n s .address .0 < 256 ^ 4
+  low n = steps-within m small δ s v n .sound .address
 
-  words-burst : (n : ℕ) → from + n ≤ length bs / 4 → wordsOf 4 (burstBy storeEntry m bs from n s) ≡ burstBy set m (wordsOf 4 bs) from n s
+  pub words-burst : (n : ℕ) → from + n ≤ length bs / 4 → wordsOf 4 (burstBy storeEntry m δ bs from n s) ≡ burstBy set m δ (wordsOf 4 bs) from n s
   unfolding burstBy
   words-burst zero h = refl
   words-burst (suc n) h =
-      words-store 4 (from + n) (stepsOn m n s .address .0) (burstBy storeEntry m bs from n s) (inside n h) (low n)
-      ∙ ap (λ (k : List ℕ). set k (from + n) (stepsOn m n s .address .0)) (words-burst n (omega arith))
+      words-store 4 (from + n) (stepsOn m δ n s .address .0) (burstBy storeEntry m δ bs from n s) (inside n h) (low n)
+      ∙ ap (λ (k : List ℕ). set k (from + n) (stepsOn m δ n s .address .0)) (words-burst n (omega arith))
 
-  stored-burst : (n : ℕ) → from + n ≤ length bs / 4 → Stored bs₀ bs from → Stored bs₀ (burstBy storeEntry m bs from n s) (from + n)
+  pub stored-burst : (n : ℕ) → from + n ≤ length bs / 4 → Stored bs₀ bs from → Stored bs₀ (burstBy storeEntry m δ bs from n s) (from + n)
   unfolding burstBy
   stored-burst zero h e = rw add-zero e
   stored-burst (suc n) h e =
-      rw add-suc (stored-next bs₀ (burstBy storeEntry m bs from n s) (from + n) _ (stored-burst n (omega arith) e) (inside n h) (low n))
+      rw add-suc (stored-next bs₀ (burstBy storeEntry m δ bs from n s) (from + n) _ (stored-burst n (omega arith) e) (inside n h) (low n))
 
 -- ---- the loop
 
@@ -68,17 +68,17 @@ unfolding storeEntries
 bytes-start m count quota s bs v = record { same = refl; stored = refl; runs = run-starts m count quota s (wordsOf 4 bs) v }
 
 module _ {m : Moves} {count quota : ℕ} {s₀ : State} {bs₀ bs : List ℕ} {s : State} {n : ℕ} (r : ByteRuns m count quota s₀ bs₀ bs s n) where
-  pub bytes-burst : Starts m count quota s₀ → {all : ℕ} → Sure m count quota s all → n + all ≤ length bs₀ / 4
-      → ByteRuns m count quota s₀ bs₀ (burstBy storeEntry m bs n all s) (stopAt count (stepsOn m all s)) (n + all)
+  pub bytes-burst : Starts m count quota s₀ → {all : ℕ} → Sure m (addFrom m) count quota s all → n + all ≤ length bs₀ / 4
+      → ByteRuns m count quota s₀ bs₀ (burstBy storeEntry m (addFrom m) bs n all s) (stopAt count (stepsOn m (addFrom m) all s)) (n + all)
   bytes-burst st {all} sure room =
       let fits : n + all ≤ length bs / 4 = rw (r .same) room in
       let v = r .runs .sound in
       let small = st .small in
       record {
-        same = burst-length storeEntry entry-length m bs n all s ∙ r .same;
-        stored = stored-burst m small s v bs₀ bs n all fits (r .stored);
+        same = burst-length storeEntry entry-length m (addFrom m) bs n all s ∙ r .same;
+        stored = stored-burst m small (addFrom m) s v bs₀ bs n all fits (r .stored);
         runs =
-            rw (words-burst m small s v bs₀ bs n all fits)
+            rw (words-burst m small (addFrom m) s v bs₀ bs n all fits)
             (run-bursts st (r .runs) sure (rw (words-length 4 bs) fits));
       }
 

@@ -1,9 +1,9 @@
 -- What a turn that learns keeps, and that the fill is the fill by stepping. Assumes nothing.
-use Prim.Native.Nat.{ℕ, _+_, _-_, _*_, _%_, _≤_, _<_}
+use Prim.Native.Nat.{ℕ, zero, suc, _+_, _-_, _*_, _%_, _≤_, _<_}
 use mathlib.Core.Path.{_≡_, refl, sym, ap, subst, _∙_}
 use mathlib.Core.Bool.{Bool, true, false, cond}
 use mathlib.Core.Logic.{_⊎_, inl, inr, ⊎-elim}
-use mathlib.Core.List.{List}
+use mathlib.Core.List.{List, [], _∷_}
 use native.Mathlib.Nat.{mul-le-mul}
 use native.Mathlib.Decide.{ℕ-discrete, decLt}
 use native.Mathlib.Omega.{arith}
@@ -72,6 +72,11 @@ pub found-out : {e : Elements} {count : ℕ} {table : List ℕ} {q t a : ℕ} �
     → Learns e count table q t a table (moveTo e t a)
 found-out {e} {count} {table} {q} {t} {a} h l =
     subst (λ (k : List ℕ). Learns e count table q t a k (moveTo e t a)) (set-out table q (moveTo e t a) h) (found l)
+
+pub unknown-out : (l : List ℕ) (q : ℕ) → length l ≤ q → getD l q 0 ≡ 0
+unknown-out [] q h = refl
+unknown-out (a ∷ l) zero h = absurd (omega arith)
+unknown-out (a ∷ l) (suc q) h = unknown-out l q (omega arith)
 
 -- a column that the table does not have
 pub class-out : {e : Elements} {count : ℕ} {columns classes classes′ : List ℕ} {q c t a b : ℕ} → length columns ≤ q

@@ -5,21 +5,21 @@ use mathlib.Core.List.{List}
 use Rattle.walk.specs.declared.moves.Moves.{Moves}
 use Rattle.walk.specs.declared.moves.State.{State}
 use Rattle.walk.specs.declared.moves.Made.{Made}
-use Rattle.walk.specs.Moving.{stepped, Small, Sound}
+use Rattle.walk.specs.Moving.{steppedBy, Small, Sound}
 
--- the state after n steps
-unfoldable pub stepsOn : Moves → ℕ → State → State
-stepsOn m zero s = s
-stepsOn m (suc n) s = stepped m (stepsOn m n s)
+-- the state after n steps that add δ of the column
+unfoldable pub stepsOn : Moves → (ℕ → ℕ) → ℕ → State → State
+stepsOn m δ zero s = s
+stepsOn m δ (suc n) s = steppedBy m δ (stepsOn m δ n s)
 
 -- the list after n turns, each of which puts its address at the next entry, from entry `from` on
-unfoldable pub burstBy : (List ℕ → ℕ → ℕ → List ℕ) → Moves → List ℕ → ℕ → ℕ → State → List ℕ
-burstBy put m l from zero s = l
-burstBy put m l from (suc n) s = put (burstBy put m l from n s) (from + n) (stepsOn m n s .address .0)
+unfoldable pub burstBy : (List ℕ → ℕ → ℕ → List ℕ) → Moves → (ℕ → ℕ) → List ℕ → ℕ → ℕ → State → List ℕ
+burstBy put m δ l from zero s = l
+burstBy put m δ l from (suc n) s = put (burstBy put m δ l from n s) (from + n) (stepsOn m δ n s .address .0)
 
 -- so many turns from state s write
-pub record Sure (m : Moves) (count quota : ℕ) (s : State) (turns : ℕ) : Type 0 where
-  pub places : (i : ℕ) → i < turns → stepsOn m i s .place .0 < count
+pub record Sure (m : Moves) (δ : ℕ → ℕ) (count quota : ℕ) (s : State) (turns : ℕ) : Type 0 where
+  pub places : (i : ℕ) → i < turns → stepsOn m δ i s .place .0 < count
   pub tries : s .paid + 3 * turns ≤ quota
 
 -- so many turns are sure to write, whichever step each takes
@@ -35,13 +35,17 @@ pub record Bursts (m : Moves) (count : ℕ) (s : State) (turns : ℕ) : Type 0 w
   pub some : 0 < turns
   pub tries : s .paid + 3 * turns < 2147483648
 
--- what a burst of at most so many turns made of the list l, from entry `from` on
-pub record Bursted (put : List ℕ → ℕ → ℕ → List ℕ) (m : Moves) (count : ℕ) (s : State) (from turns : ℕ) (l l′ : List ℕ) (r : Made) : Type 0 where
+-- What a burst of at most so many turns, each of them from a state as P says, made of the list l, from entry `from` on.
+pub record Bursted (put : List ℕ → ℕ → ℕ → List ℕ) (m : Moves) (δ : ℕ → ℕ) (P : State → Type 0) (s : State) (from turns : ℕ) (l l′ : List ℕ) (r : Made) : Type 0 where
   pub some : 0 < r .turns
   pub low : r .turns ≤ turns
-  pub places : (i : ℕ) → i < r .turns → stepsOn m i s .place .0 < count
-  pub state : r .state ≡ stepsOn m (r .turns) s
-  pub list : l′ ≡ burstBy put m l from (r .turns) s
+  pub each : (i : ℕ) → i < r .turns → P (stepsOn m δ i s)
+  pub state : r .state ≡ stepsOn m δ (r .turns) s
+  pub list : l′ ≡ burstBy put m δ l from (r .turns) s
+
+-- the count is not reached
+abbrev pub Before : ℕ → State → Type 0
+Before count s = s .place .0 < count
 
 -- a state from which a fill starts
 pub record Starts (m : Moves) (count quota : ℕ) (s : State) : Type 0 where

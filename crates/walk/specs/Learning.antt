@@ -13,9 +13,11 @@ use Rattle.model.specs.Sized.{Sized}
 use Rattle.model.specs.Filling.{Walk, fillBy}
 use Rattle.walk.specs.declared.moves.Moves.{Moves}
 use Rattle.walk.specs.declared.moves.State.{State}
+use Rattle.walk.specs.declared.moves.Made.{Made}
 use Rattle.walk.specs.declared.moves.Report.{Report}
 use Rattle.walk.specs.declared.learning.Elements.{Elements}
-use Rattle.walk.specs.Moving.{moveFrom, movedBy, stopAt}
+use Rattle.walk.specs.Moving.{moveFrom, movedBy, stopAt, Small, Sound}
+use Rattle.walk.specs.Bursts.{Bursted}
 use Rattle.walk.specs.Driving.{Paces, Stands, ByteFilled}
 
 -- n above i, or below it
@@ -69,6 +71,34 @@ pub record Turns (e : Elements) (m : Moves) (count : ℕ) (columns columns′ cl
   pub finds : Finds e count columns classes (s .column) (classOf e m (s .column)) (s .place .0 + moveFrom m (s .column) .places) (s .address .0)
       columns′ classes′ add
   pub state : s′ ≡ stopAt count (movedBy (moveFrom m (s .column)) add s)
+
+-- what is known of column q, or 0
+abbrev pub knownIn : List ℕ → ℕ → ℕ
+knownIn columns q = getD columns q 0
+
+-- a turn that is made by what is known
+abbrev pub Known : ℕ → List ℕ → State → Type 0
+Known count columns s = (s .place .0 < count) × (knownIn columns (s .column) ≡ 0 → ⊥)
+
+-- a state from which a fill goes on
+pub record Goes (e : Elements) (m : Moves) (count quota : ℕ) (s : State) : Type 0 where
+  pub placed : Placed e count
+  pub small : Small m
+  pub sound : Sound m s
+  pub few : count < 2147483648
+  pub low : quota < 2147483648
+  pub place : s .place .0 < count
+  pub paid : s .paid + 3 ≤ quota
+
+-- The next turns, of which n are made already and no more than `size` are: a burst by what is known, or one that learns. The
+-- tables and the list afterwards, and what was made.
+pub data Advances (put : List ℕ → ℕ → ℕ → List ℕ) (e : Elements) (m : Moves) (count quota : ℕ) (columns classes : List ℕ) (s : State) (n size : ℕ) (l : List ℕ)
+    : List ℕ → List ℕ → List ℕ → Made → Type 0 where
+  by-known : {l′ : List ℕ} {r : Made} (most : ℕ) → s .paid + 3 * most ≤ quota → n + most ≤ size
+      → Bursted put m (knownIn columns) (Known count columns) s n most l l′ r
+      → Advances put e m count quota columns classes s n size l columns classes l′ (record { state = stopAt count (r .state); turns = r .turns })
+  by-learning : {columns′ classes′ : List ℕ} {s′ : State} → Turns e m count columns columns′ classes classes′ s s′
+      → Advances put e m count quota columns classes s n size l columns′ classes′ (put l n (s .address .0)) (record { state = s′; turns = 1 })
 
 -- The moves go along the walk, whose addresses are those of the elements, and by one step from columns with one rest they move
 -- alike.

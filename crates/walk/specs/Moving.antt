@@ -29,6 +29,14 @@ movedBy g d s = record {
   paid = s .paid + g .tries;
 }
 
+-- where what is added depends on the column
+abbrev pub steppedBy : Moves → (ℕ → ℕ) → State → State
+steppedBy m δ s = movedBy (moveFrom m (s .column)) (δ (s .column)) s
+
+-- constant moves: what is added depends on the step alone
+abbrev pub addFrom : Moves → ℕ → ℕ
+addFrom m q = moveFrom m q .add
+
 unfoldable pub stepped : Moves → State → State
 stepped m s = movedBy (moveFrom m (s .column)) (moveFrom m (s .column) .add) s
 

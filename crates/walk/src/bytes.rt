@@ -9,7 +9,8 @@ ghost use mathlib.Core.Path.{_≡_};
 ghost use Prim.Native.Nat.{_+_, _*_, _/_, _≤_, _<_};
 ghost use lib.ListN.{length};
 ghost use Rattle.model.specs.ByteFills.{storeEntry};
-ghost use Rattle.walk.specs.Bursts.{Starts, Bursts, Bursted, Short};
+ghost use Rattle.walk.specs.Moving.{addFrom};
+ghost use Rattle.walk.specs.Bursts.{Starts, Bursts, Bursted, Short, Before};
 ghost use Rattle.walk.specs.Driving.{FillsBytes};
 
 // An address stored as entry n.
@@ -28,7 +29,7 @@ pub fn put_entry(list: &mut [u8], n: usize, x: u32)
 // column.
 fn burst(m: Moves, count: u64, start: State, list: &mut [u8], from: usize, turns: usize) -> Made
     requires { ⌜ Bursts m count start turns × Short m count start turns × (from + turns ≤ length (now list) / 4) ⌝ }
-    ensures { λ r. ⌜ Bursted storeEntry m count start from turns (now (list .entry)) (now (list .exit)) r ⌝ }
+    ensures { λ r. ⌜ Bursted storeEntry m (addFrom m) (Before count) start from turns (now (list .entry)) (now (list .exit)) r ⌝ }
 {
     let mut s = start;
     let mut i: usize = 0;
@@ -51,7 +52,7 @@ fn tested_burst(
     turns: usize,
 ) -> Made
     requires { ⌜ Bursts m count start turns × (from + turns ≤ length (now list) / 4) ⌝ }
-    ensures { λ r. ⌜ Bursted storeEntry m count start from turns (now (list .entry)) (now (list .exit)) r ⌝ }
+    ensures { λ r. ⌜ Bursted storeEntry m (addFrom m) (Before count) start from turns (now (list .entry)) (now (list .exit)) r ⌝ }
 {
     let mut s = start;
     let mut i: usize = 0;
@@ -69,7 +70,7 @@ fn tested_burst(
 // The next turns, at most so many.
 fn next_turns(m: Moves, count: u64, start: State, list: &mut [u8], from: usize, most: usize) -> Made
     requires { ⌜ Bursts m count start most × (from + most ≤ length (now list) / 4) ⌝ }
-    ensures { λ r. ⌜ Bursted storeEntry m count start from most (now (list .entry)) (now (list .exit)) r ⌝ }
+    ensures { λ r. ⌜ Bursted storeEntry m (addFrom m) (Before count) start from most (now (list .entry)) (now (list .exit)) r ⌝ }
 {
     let turns = moves::sure_turns(m, count, start, most);
     if turns < moves::SHORT {

@@ -10,8 +10,8 @@ use model::Layout;
 use model::Position;
 ghost use mathlib.Core.Path.{_≡_};
 ghost use Prim.Native.Nat.{_+_, _*_, _%_, _≤_, _<_};
-ghost use Rattle.walk.specs.Moving.{Small, Sound, Roomy};
-ghost use Rattle.walk.specs.Learning.{elementAt, addressAt, Placed, periodOf, Learns, Finds, Turns};
+ghost use Rattle.walk.specs.Moving.{moveFrom, movedBy, Small, Sound, Roomy};
+ghost use Rattle.walk.specs.Learning.{elementAt, addressAt, Placed, periodOf, Learns, Finds, knownIn, Turns};
 
 // The elements at the places of a walk: place t has element first + t * stride, or
 // first - t * stride.
@@ -105,6 +105,34 @@ fn move_from(
         columns[at] = add as u32;
     }
     add
+}
+
+// What is known of column q, or 0.
+pub fn known_move(columns: &[u32], q: u64) -> u64
+    requires { ⌜ q ≤ 65536 ⌝ }
+    ensures { λ r. ⌜ (r < 4294967296) × (r ≡ knownIn (now (columns .entry)) q) ⌝ }
+{
+    let at = q as usize;
+    if columns.len() <= at {
+        return 0;
+    }
+    columns[at] as u64
+}
+
+// The state after a step that adds so much to the address. The place may pass the count.
+pub fn step_by(m: Moves, s: State, add: u64) -> State
+    requires { ⌜ Small m × Sound m s × Roomy s × (add < 4294967296) ⌝ }
+    ensures { λ r. ⌜ r ≡ movedBy (moveFrom m (s .column)) add s ⌝ }
+{
+    let next = moves::step(m, s);
+    let place = next.place;
+    let a = s.address;
+    State {
+        column: next.column,
+        address: Address((a.0 + add) % moves::ADDRESSES),
+        place: place,
+        paid: next.paid,
+    }
 }
 
 // The state after a turn.

@@ -2,14 +2,81 @@
 use crate::bytes::put_entry;
 use crate::learning::Elements;
 use crate::learning::{self};
+use crate::moves::Made;
 use crate::moves::Moves;
 use crate::moves::Report;
 use crate::moves::State;
+use crate::moves::{self};
 ghost use mathlib.Core.Path.{_≡_};
-ghost use Prim.Native.Nat.{ℕ};
-ghost use lib.ListN.{getD};
-ghost use Rattle.walk.specs.Bursts.{Starts};
-ghost use Rattle.walk.specs.Learning.{Placed, FillsBytesEven};
+ghost use Prim.Native.Nat.{ℕ, _+_, _/_, _≤_, _<_};
+ghost use lib.ListN.{length, getD};
+ghost use Rattle.model.specs.ByteFills.{storeEntry};
+ghost use Rattle.walk.specs.Bursts.{Starts, Bursts, Bursted};
+ghost use Rattle.walk.specs.Learning.{Placed, knownIn, Known, Goes, Advances, FillsBytesEven};
+
+// At most so many turns by what is known, from entry `from` on, that end where the count is
+// reached or a column is not known.
+fn known_turns(
+    m: Moves,
+    count: u64,
+    columns: &[u32],
+    start: State,
+    list: &mut [u8],
+    from: usize,
+    turns: usize,
+) -> Made
+    requires { ⌜ Bursts m count start turns × Known count (now columns) start × (from + turns ≤ length (now list) / 4) ⌝ }
+    ensures { λ r. ⌜ Bursted storeEntry m (knownIn (now (columns .entry))) (Known count (now (columns .entry)))
+        start from turns (now (list .entry)) (now (list .exit)) r ⌝ }
+{
+    let mut s = start;
+    let mut i: usize = 0;
+    while i < turns {
+        if count <= s.place.0 {
+            break;
+        }
+        let add = learning::known_move(columns, s.column);
+        if add == 0 {
+            break;
+        }
+        put_entry(list, from + i, s.address.0 as u32);
+        s = learning::step_by(m, s, add);
+        i += 1;
+    }
+    Made { state: s, turns: i }
+}
+
+// The next turns: as many as are known, or one that learns.
+fn next_turns(
+    e: Elements,
+    m: Moves,
+    count: u64,
+    quota: u64,
+    columns: &mut [u32],
+    classes: &mut [u32],
+    s: State,
+    list: &mut [u8],
+    n: usize,
+) -> Made
+    requires { ⌜ Goes e m count quota s × (n < length (now list) / 4) ⌝ }
+    ensures { λ r. ⌜ Advances storeEntry e m count quota (now (columns .entry)) (now (classes .entry)) s n
+        (length (now (list .entry)) / 4) (now (list .entry))
+        (now (columns .exit)) (now (classes .exit)) (now (list .exit)) r ⌝ }
+{
+    if learning::known_move(columns, s.column) != 0 {
+        let most = moves::paid_turns(quota, s.paid, list.len() / 4 - n);
+        let made = known_turns(m, count, columns, s, list, n, most);
+        return Made {
+            state: moves::stop_at(count, made.state),
+            turns: made.turns,
+        };
+    }
+    put_entry(list, n, s.address.0 as u32);
+    Made {
+        state: learning::turn(e, m, count, columns, classes, s),
+        turns: 1,
+    }
+}
 
 // The fill by moves that are learnt, with tables that know none yet.
 fn fill_learning(
@@ -36,9 +103,9 @@ fn fill_learning(
         if quota - s.paid < 3 {
             break;
         }
-        put_entry(list, n, s.address.0 as u32);
-        s = learning::turn(e, m, count, columns, classes, s);
-        n += 1;
+        let made = next_turns(e, m, count, quota, columns, classes, s, list, n);
+        s = made.state;
+        n += made.turns;
     }
     let place = s.place;
     Report {

@@ -6,14 +6,15 @@ use crate::moves::State;
 use crate::moves::{self};
 ghost use Prim.Native.Nat.{_+_, _≤_};
 ghost use lib.ListN.{length, set};
-ghost use Rattle.walk.specs.Bursts.{Starts, Bursts, Bursted, Short};
+ghost use Rattle.walk.specs.Moving.{addFrom};
+ghost use Rattle.walk.specs.Bursts.{Starts, Bursts, Bursted, Short, Before};
 ghost use Rattle.walk.specs.Driving.{Fills};
 
 // So many turns that are sure to write, from entry `from` on, with no test but that of the
 // column.
 fn burst(m: Moves, count: u64, start: State, list: &mut [u32], from: usize, turns: usize) -> Made
     requires { ⌜ Bursts m count start turns × Short m count start turns × (from + turns ≤ length (now list)) ⌝ }
-    ensures { λ r. ⌜ Bursted set m count start from turns (now (list .entry)) (now (list .exit)) r ⌝ }
+    ensures { λ r. ⌜ Bursted set m (addFrom m) (Before count) start from turns (now (list .entry)) (now (list .exit)) r ⌝ }
 {
     let mut s = start;
     let mut i: usize = 0;
@@ -36,7 +37,7 @@ fn tested_burst(
     turns: usize,
 ) -> Made
     requires { ⌜ Bursts m count start turns × (from + turns ≤ length (now list)) ⌝ }
-    ensures { λ r. ⌜ Bursted set m count start from turns (now (list .entry)) (now (list .exit)) r ⌝ }
+    ensures { λ r. ⌜ Bursted set m (addFrom m) (Before count) start from turns (now (list .entry)) (now (list .exit)) r ⌝ }
 {
     let mut s = start;
     let mut i: usize = 0;
@@ -61,7 +62,7 @@ fn next_turns(
     most: usize,
 ) -> Made
     requires { ⌜ Bursts m count start most × (from + most ≤ length (now list)) ⌝ }
-    ensures { λ r. ⌜ Bursted set m count start from most (now (list .entry)) (now (list .exit)) r ⌝ }
+    ensures { λ r. ⌜ Bursted set m (addFrom m) (Before count) start from most (now (list .entry)) (now (list .exit)) r ⌝ }
 {
     let turns = moves::sure_turns(m, count, start, most);
     if turns < moves::SHORT {

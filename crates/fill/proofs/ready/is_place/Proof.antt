@@ -45,16 +45,16 @@ returns-3 c =
     let a = start n .args in
     past-no (a .w) (a .q) (a .place) (is-natural n) (omega (arith, position n))
 
-owns-place-requires : tie.Need-owns-place-requires
-owns-place-requires c κs = search needs
+owned-at-requires : tie.Need-owned-at-requires
+owned-at-requires c κs = record { bounded = c .before .before .before .before .before .before .pre; below = omega (arith, c .if3 .left) }
 
 returns-4 : tie.Need-returns-4
 returns-4 c =
     let n = c .before .before .before .before .before in
     let a = start n .args in
-    c .owns-place .ensures ∙ ap (ownedAt (a .w) (a .q)) (position n)
+    c .owned-at .ensures ∙ ap (ownedAt (a .w) (a .q)) (position n)
     ∙ position-owned (a .w) (a .q) (a .place) (is-natural n) (omega (arith, position n))
 
 pub is-place-spec : {M : Type 1} → statement M
 is-place-spec =
-    tie.close (tie.spec returns natural-requires returns-2 returns-3 owns-place-requires returns-4)
+    tie.close (tie.spec returns natural-requires returns-2 returns-3 owned-at-requires returns-4)

@@ -61,7 +61,7 @@ loop-again c =
     rw (c .before .stop-at .ensures, r .state) (
       v .0,
       omega (arith, u .paid-turns .ensures .1, r .low),
-      rw (r .list) (bytes-burst (v .2) (b .before .before .pre) (made-sure r (u .paid-turns .ensures .2)) (omega (arith, u .paid-turns .ensures .1, r .low, v .0))),
+      rw (r .list) (bytes-burst (v .2) (b .before .before .pre) (made-sure r (λ z g. g) (u .paid-turns .ensures .2)) (omega (arith, u .paid-turns .ensures .1, r .low, v .0))),
     )
 
 same-length : tie.Need-same-length Inv-loop μ-loop

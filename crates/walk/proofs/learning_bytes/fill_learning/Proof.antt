@@ -1,13 +1,12 @@
 -- `fill_learning` meets its contract.
-use Prim.Native.Nat.{_-_, _/_}
+use Prim.Native.Nat.{_+_, _-_, _/_, _≤_, _<_}
 use mathlib.Core.Path.{_≡_, refl, _∙_}
 use mathlib.Core.Logic.{inl, inr, ⊎-elim}
 use native.Mathlib.Omega.{arith}
 use lib.ListN.{length}
 use borrow.Author.Needs.{needs}
-use Rattle.walk.proofs.LearnLaws.{finds-lengths}
-use Rattle.walk.proofs.LearnRuns.{even-asks}
-use Rattle.walk.proofs.LearnBytes.{EvenBytes, even-bytes-start, even-bytes-turn, even-bytes-end}
+use Rattle.walk.proofs.LearnRuns.{even-goes, advances-lengths, advances-some}
+use Rattle.walk.proofs.LearnBytes.{EvenBytes, even-bytes-start, even-bytes-advance, even-bytes-end}
 use Rattle.walk.proofs.learning_bytes.fill_learning.Statement.{statement}
 use Rattle.walk.proofs.learning_bytes.fill_learning.Tie as tie
 
@@ -27,47 +26,50 @@ loop-holds c =
 sub-if2 : tie.Need-sub-if2 Inv-loop μ-loop
 sub-if2 c = search needs
 
-cast-put-entry : tie.Need-cast-put-entry Inv-loop μ-loop
-cast-put-entry c = search needs
-
-put-entry-requires : tie.Need-put-entry-requires Inv-loop μ-loop
-put-entry-requires c κs =
-    let i = c .before .before .before .before .before .before in
-    let v = i .before .loop .inv in
-    rw (v .3 .same) (omega (arith, i .loop-test .taken, v .2))
-
-turn-requires : tie.Need-turn-requires Inv-loop μ-loop
-turn-requires c κs =
-    let b = c .before .before .before .before .before .before .before .before .before .before .before .before in
-    let p = b .before .before .before .before .pre in
-    let a = even-asks (p .1) (b .loop .inv .3 .runs) in
-    (p .0, a .0, a .1, a .2)
-
-add-n : tie.Need-add-n Inv-loop μ-loop
-add-n c =
-    let t = c .before .before .before .before in
-    let i = t .before .before .before .before .before .before .before .before .before .before .before .before in
-    let b = i .before in
-    omega (arith, i .loop-test .taken, b .loop .inv .2, b .before .before .before .before .good .1 .1 .1 .1 .1 .1 .1 .0 .0)
-
-loop-less : tie.Need-loop-less Inv-loop μ-loop
-loop-less c = search needs
-
-loop-again : tie.Need-loop-again Inv-loop μ-loop
-loop-again c =
-    let t = c .before .before .before .before in
-    let u = t .before .before .before .before .before in
-    let f = u .before .before .before in
+next-turns-requires : tie.Need-next-turns-requires Inv-loop μ-loop
+next-turns-requires c κs =
+    let f = c .before .before .before in
     let i = f .before .before .before .before in
     let b = i .before in
     let p = b .before .before .before .before .pre in
     let v = b .loop .inv in
-    let g = finds-lengths (t .turn .ensures .finds) in (
+    (even-goes (p .1) (v .3 .runs) (p .0) (f .before .before .if1 .left) (f .if2 .left), rw (v .3 .same) (omega (arith, i .loop-test .taken, v .2)))
+
+-- how far the turns go
+far : (c : tie.After-next-turns Inv-loop μ-loop)
+    → (0 < c .next-turns .result .turns)
+    × (c .before .before .before .before .before .before .before .before .before .loop .n + c .next-turns .result .turns
+    ≤ length (c .before .before .before .before .before .before .before .before .before .loop .list) / 4)
+far c =
+    let i = c .before .before .before .before .before .before .before .before in
+    let v = i .before .loop .inv in
+    advances-some (rw (v .3 .same) (omega (arith, i .loop-test .taken, v .2))) (c .next-turns .ensures)
+
+add-n : tie.Need-add-n Inv-loop μ-loop
+add-n c =
+    let t = c .before .before .before .before .before .before .before .before in
+    let b = t .before .before .before .before .before .before .before .before .before in
+    omega (arith, far t .1, b .loop .inv .3 .same, b .before .before .before .before .good .1 .1 .1 .1 .1 .1 .1 .0 .0)
+
+loop-less : tie.Need-loop-less Inv-loop μ-loop
+loop-less c =
+    let t = c .before .before .before .before .before .before .before .before in
+    let b = t .before .before .before .before .before .before .before .before .before in
+    omega (arith, far t .0, far t .1, b .loop .inv .2, b .loop .inv .3 .same)
+
+loop-again : tie.Need-loop-again Inv-loop μ-loop
+loop-again c =
+    let t = c .before .before .before .before .before .before .before .before in
+    let f = t .before .before .before .before in
+    let i = f .before .before .before .before in
+    let b = i .before in
+    let p = b .before .before .before .before .pre in
+    let v = b .loop .inv in
+    let g = advances-lengths (t .next-turns .ensures) in (
       g .0 ∙ v .0,
       g .1 ∙ v .1,
       v .2,
-      rw (u .put-entry .ensures)
-          (even-bytes-turn (p .1) (v .3) (p .0) (omega (arith, i .loop-test .taken, v .2)) (f .before .before .if1 .left) (f .if2 .left) (t .turn .ensures)),
+      even-bytes-advance (p .1) (v .3) (p .0) (omega (arith, i .loop-test .taken, v .2)) (f .before .before .if1 .left) (f .if2 .left) (t .next-turns .ensures),
     )
 
 same-length : tie.Need-same-length Inv-loop μ-loop
@@ -94,9 +96,7 @@ fill-learning-spec =
     μ-loop
     loop-holds
     sub-if2
-    cast-put-entry
-    put-entry-requires
-    turn-requires
+    next-turns-requires
     add-n
     loop-less
     loop-again

@@ -1,12 +1,11 @@
 -- `fill_learning` meets its contract.
-use Prim.Native.Nat.{_-_}
+use Prim.Native.Nat.{_+_, _-_, _≤_, _<_}
 use mathlib.Core.Path.{_≡_, refl, _∙_}
 use mathlib.Core.Logic.{inl, inr, ⊎-elim}
 use native.Mathlib.Omega.{arith}
 use lib.ListN.{length, length-set}
-use borrow.Author.Needs.{needs, scaled-fits}
-use Rattle.walk.proofs.LearnLaws.{finds-lengths}
-use Rattle.walk.proofs.LearnRuns.{EvenRuns, even-starts, even-asks, even-turns, even-ends}
+use borrow.Author.Needs.{needs}
+use Rattle.walk.proofs.LearnRuns.{EvenRuns, even-starts, even-goes, even-advances, even-ends, advances-lengths, advances-some, advances-list}
 use Rattle.walk.proofs.learning_words.fill_learning.Statement.{statement}
 use Rattle.walk.proofs.learning_words.fill_learning.Tie as tie
 
@@ -26,48 +25,50 @@ loop-holds c =
 sub-if2 : tie.Need-sub-if2 Inv-loop μ-loop
 sub-if2 c = search needs
 
-cast-list : tie.Need-cast-list Inv-loop μ-loop
-cast-list c = search needs
-
-mul-list : tie.Need-mul-list Inv-loop μ-loop
-mul-list c =
-    let i = c .before .before .before .before .before in
+next-turns-requires : tie.Need-next-turns-requires Inv-loop μ-loop
+next-turns-requires c κs =
+    let f = c .before .before .before in
+    let i = f .before .before .before .before in
     let b = i .before in
-    scaled-fits _ _ _ (i .loop-test .taken) (rw (b .loop .inv .2) (b .before .before .before .before .good .1 .1 .1 .1 .1 .1 .1 .0 .1))
-
-slice-write-list : tie.Need-slice-write-list Inv-loop μ-loop
-slice-write-list c = search needs
-
-turn-requires : tie.Need-turn-requires Inv-loop μ-loop
-turn-requires c κs =
-    let b = c .before .before .before .before .before .before .before .before in
     let p = b .before .before .before .before .pre in
-    let a = even-asks (p .1) (b .loop .inv .3) in
-    (p .0, a .0, a .1, a .2)
+    let v = b .loop .inv in
+    (even-goes (p .1) (v .3) (p .0) (f .before .before .if1 .left) (f .if2 .left), i .loop-test .taken)
+
+-- how far the turns go
+far : (c : tie.After-next-turns Inv-loop μ-loop)
+    → (0 < c .next-turns .result .turns)
+    × (c .before .before .before .before .before .before .before .before .before .loop .n + c .next-turns .result .turns
+    ≤ length (c .before .before .before .before .before .before .before .before .before .loop .list))
+far c =
+    let i = c .before .before .before .before .before .before .before .before in
+    let v = i .before .loop .inv in
+    advances-some (i .loop-test .taken) (c .next-turns .ensures)
 
 add-n : tie.Need-add-n Inv-loop μ-loop
 add-n c =
-    let t = c .before .before .before .before in
-    let i = t .before .before .before .before .before .before .before .before in
-    let b = i .before in
-    omega (arith, i .loop-test .taken, b .loop .inv .2, b .before .before .before .before .good .1 .1 .1 .1 .1 .1 .1 .0 .0)
+    let t = c .before .before .before .before .before .before .before .before in
+    let b = t .before .before .before .before .before .before .before .before .before in
+    omega (arith, far t .1, b .loop .inv .2, b .before .before .before .before .good .1 .1 .1 .1 .1 .1 .1 .0 .0)
 
 loop-less : tie.Need-loop-less Inv-loop μ-loop
-loop-less c = simp length-set (omega arith)
+loop-less c =
+    let t = c .before .before .before .before .before .before .before .before in
+    let b = t .before .before .before .before .before .before .before .before .before in
+    omega (arith, far t .0, far t .1, advances-list length-set (t .next-turns .ensures))
 
 loop-again : tie.Need-loop-again Inv-loop μ-loop
 loop-again c =
-    let t = c .before .before .before .before in
+    let t = c .before .before .before .before .before .before .before .before in
     let f = t .before .before .before .before in
     let i = f .before .before .before .before in
     let b = i .before in
     let p = b .before .before .before .before .pre in
     let v = b .loop .inv in
-    let g = finds-lengths (t .turn .ensures .finds) in (
+    let g = advances-lengths (t .next-turns .ensures) in (
       g .0 ∙ v .0,
       g .1 ∙ v .1,
-      simp length-set (v .2),
-      even-turns (p .1) (v .3) (p .0) (i .loop-test .taken) (f .before .before .if1 .left) (f .if2 .left) (t .turn .ensures),
+      advances-list length-set (t .next-turns .ensures) ∙ v .2,
+      even-advances (p .1) (v .3) (p .0) (i .loop-test .taken) (f .before .before .if1 .left) (f .if2 .left) (t .next-turns .ensures),
     )
 
 same-length : tie.Need-same-length Inv-loop μ-loop
@@ -93,10 +94,7 @@ fill-learning-spec =
     μ-loop
     loop-holds
     sub-if2
-    cast-list
-    mul-list
-    slice-write-list
-    turn-requires
+    next-turns-requires
     add-n
     loop-less
     loop-again

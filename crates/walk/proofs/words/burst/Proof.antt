@@ -4,13 +4,14 @@ use mathlib.Core.Logic.{inl}
 use native.Mathlib.Omega.{arith}
 use lib.ListN.{set, length-set}
 use borrow.Author.Needs.{needs}
-use Rattle.walk.specs.Moving.{Small, Sound, Roomy}
+use Rattle.walk.specs.Moving.{addFrom, stepped, Small, Sound, Roomy}
+use Rattle.walk.specs.Bursts.{Before}
 use Rattle.walk.proofs.BurstLaws.{Bursting, bursting-starts, bursting-turns, bursting-ends, bursting-short, bursting-steps}
 use Rattle.walk.proofs.words.burst.Statement.{statement}
 use Rattle.walk.proofs.words.burst.Tie as tie
 
 abbrev Inv-loop : tie.InvT-loop
-Inv-loop m count list₀ from turns s₀ i₀ list s i = Bursting set m count list₀ from turns s₀ list s i
+Inv-loop m count list₀ from turns s₀ i₀ list s i = Bursting set m (addFrom m) (Before count) list₀ from turns s₀ list s i
 
 abbrev μ-loop : tie.MeasureT-loop
 μ-loop m count list₀ from turns s₀ i₀ list s i = turns - i
@@ -19,15 +20,15 @@ abbrev μ-loop : tie.MeasureT-loop
 here : (c : tie.In-loop Inv-loop μ-loop) → c .before .loop .s .place .0 < c .before .before .before .args .count
 here c =
     let p = c .before .before .before .pre in
-    bursting-short set length-set _ _ (c .before .loop .inv) (p .0) (p .1) (c .loop-test .taken)
+    bursting-short set length-set _ _ _ (c .before .loop .inv) (p .0) (p .1) (c .loop-test .taken)
 
 ready : (c : tie.In-loop Inv-loop μ-loop)
     → Small (c .before .before .before .args .m) × Sound (c .before .before .before .args .m) (c .before .loop .s) × Roomy (c .before .loop .s)
 ready c =
-    bursting-steps set length-set _ _ (c .before .loop .inv) (c .before .before .before .pre .0) (c .loop-test .taken) (here c)
+    bursting-steps set length-set _ _ _ (c .before .loop .inv) (c .before .before .before .pre .0) (c .loop-test .taken) (here c)
 
 loop-holds : tie.Need-loop-holds Inv-loop μ-loop
-loop-holds c = bursting-starts set length-set _ _
+loop-holds c = bursting-starts set length-set _ _ _
 
 cast-list : tie.Need-cast-list Inv-loop μ-loop
 cast-list c = omega (arith, ready (c .before) .1 .address)
@@ -51,15 +52,18 @@ loop-less : tie.Need-loop-less Inv-loop μ-loop
 loop-less c = search needs
 
 loop-again : tie.Need-loop-again Inv-loop μ-loop
+unfolding stepped
 loop-again c =
     let b = c .before .before in
-    rw (c .step .ensures) (bursting-turns set length-set _ _ (b .before .loop .inv) (b .loop-test .taken) (here b))
+    rw (c .step .ensures) (bursting-turns set length-set _ _ _ (b .before .loop .inv) (b .loop-test .taken) (here b))
 
 same-length : tie.Need-same-length Inv-loop μ-loop
 same-length c = search needs
 
 returns : tie.Need-returns Inv-loop μ-loop
-returns c = bursting-ends set length-set _ _ (c .before .loop .inv) (c .before .before .before .pre .0) (inl (c .loop-test .left))
+returns c =
+    let p = c .before .before .before .pre .0 in
+    bursting-ends set length-set _ _ _ (c .before .loop .inv) (p .place) (p .some) (inl (c .loop-test .left))
 
 pub burst-spec : {M : Type 1} → statement M
 burst-spec =

@@ -58,11 +58,11 @@ loop-again c =
     let u = m .before .before in
     let b = u .before .before .before .before .before .before in
     let v = b .loop .inv in
-    let same = ap length (r .list) ∙ burst-length set length-set _ _ _ _ _ in
+    let same = ap length (r .list) ∙ burst-length set length-set _ _ _ _ _ _ in
     rw (c .before .stop-at .ensures, r .state) (
       same ∙ v .0,
       omega (arith, same, u .paid-turns .ensures .1, r .low),
-      rw (r .list) (run-bursts (b .before .before .pre) (v .2) (made-sure r (u .paid-turns .ensures .2)) (omega (arith, u .paid-turns .ensures .1, r .low))),
+      rw (r .list) (run-bursts (b .before .before .pre) (v .2) (made-sure r (λ z g. g) (u .paid-turns .ensures .2)) (omega (arith, u .paid-turns .ensures .1, r .low))),
     )
 
 same-length : tie.Need-same-length Inv-loop μ-loop

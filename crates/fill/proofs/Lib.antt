@@ -8,8 +8,9 @@ pub mod AddressMoves
 pub mod DriveLaws
 pub mod SmallMoves
 pub mod EvenLaws
--- a fill's questions, its plan, its start, and its answers
+-- a fill's questions, its plan, its start, its chunks, and its answers
 pub mod ReadyLaws
 pub mod PlanLaws
 pub mod StartLaws
+pub mod ChunkLaws
 pub mod FillAnswers

@@ -26,7 +26,7 @@ use Rattle.section.proofs.StridedSections.{bounded}
 use Rattle.walk.specs.declared.moves.Moves.{Moves}
 use Rattle.fill.specs.declared.plan.Plan.{Plan}
 use Rattle.fill.specs.declared.plan.Plan.the-variants.{Constant, Learnt}
-use Rattle.walk.specs.Moving.{Small}
+use Rattle.walk.specs.Moving.{Small, Still}
 use Rattle.fill.specs.SectionMoves.{onward, movesBy, movesOf, lineNear, lineFar, lineMoves}
 use Rattle.fill.specs.Starting.{Taken, PlannedFor, Planned}
 use Rattle.fill.proofs.DriveLaws.{drives-none, drives-ones, drives-line, drives-one}
@@ -103,6 +103,13 @@ block-is k S NoStep near far both = refl
 block-is k S (OneStep a) near far both = refl
 block-is k S (TwoSteps r b) near far both = refl
 
+-- moves to which nothing is added leave the address as it is
+still-is : (k S : ℕ) (s : Steps) → Still (movesBy k S s 0 0 0)
+unfolding movesBy
+still-is k S NoStep = record { near = refl; far = refl; both = refl }
+still-is k S (OneStep a) = record { near = refl; far = refl; both = refl }
+still-is k S (TwoSteps r b) = record { near = refl; far = refl; both = refl }
+
 -- the section's moves have its blocks
 block-of : (x : Section) (near far both : ℕ) → movesOf x near far both .block ≡ layout x .block
 block-of x near far both = block-is (layout x .block) (spread x) (stepsOf x) near far both
@@ -178,4 +185,4 @@ module _ (w : Strided) (q : ℕ) where
     learnt-planned m f x ok same =
         let l : 0 < 4294967296 = lit< tt in
         subst (λ (z : Moves). PlannedFor x q (Learnt z)) (sym (f ∙ moves-are w x same (TwoSteps r b) e 0 0 0))
-        (moves-small x ok 0 0 0 l l l, block-of x 0 0 0, even x ok 0 0 0 q (moves-small x ok 0 0 0 l l l))
+        (moves-small x ok 0 0 0 l l l, block-of x 0 0 0, even x ok 0 0 0 q (moves-small x ok 0 0 0 l l l), still-is (layout x .block) (spread x) (stepsOf x))

@@ -6,31 +6,29 @@ use native.Mathlib.Nat.{mod-lt}
 use native.Mathlib.Omega.{arith}
 use mathlib.Core.List.{List}
 use lib.Dec.{lit<}
-use Rattle.numbers.specs.Words.{wordsOf}
 use Rattle.model.specs.declared.Section.{Section}
-use Rattle.model.specs.Ownership.{cellOf, columnOf, ownerOf, rank}
-use Rattle.model.specs.Sections.{layout, count, index, cell, address}
-use Rattle.model.specs.Filling.{Walk, Filled, fillBy}
+use Rattle.model.specs.Ownership.{columnOf, ownerOf, rank}
+use Rattle.model.specs.Sections.{layout, count}
 use Rattle.model.specs.Questions.{firstNo, ofSection}
 use Rattle.model.specs.Calls.{walkOf}
 use Rattle.model.proofs.ByteFillsHold.{address-low}
 use Rattle.section.specs.declared.questions.Strided.{Strided}
-use Rattle.section.specs.Strides.{stridedOf, ownedAt}
-use Rattle.section.proofs.StridedSections.{owned-at}
+use Rattle.section.specs.Strides.{stridedOf, indexAt, cellAt, ownedAt}
+use Rattle.section.proofs.StridedSections.{address-at, cell-at, owned-at}
 use Rattle.walk.specs.declared.moves.Moves.{Moves}
 use Rattle.walk.specs.declared.moves.State.{State}
 use Rattle.walk.specs.declared.moves.Report.{Report}
 use Rattle.fill.specs.declared.ready.Start.{Start}
 use Rattle.walk.specs.declared.learning.Elements.{Elements}
+use Rattle.walk.specs.declared.learning.Task.{Task}
 use Rattle.fill.specs.declared.plan.Plan.the-variants.{Constant, Learnt}
 use Rattle.walk.specs.Moving.{Small}
 use Rattle.walk.specs.Bursts.{Starts}
 use Rattle.fill.specs.SectionMoves.{onWay, columnAt, StandsAt}
-use Rattle.walk.specs.Driving.{Drives, Stands, Fills, ByteFilled, FillsBytes}
-use Rattle.walk.specs.Learning.{elementAt, Even, FillsEven, FillsBytesEven}
-use Rattle.fill.specs.Starting.{Planned, Accepted, elementsIn, StateOf}
-use Rattle.fill.specs.Ready.{FillsFrom, FillsBytesFrom}
-use Rattle.fill.proofs.EvenLaws.{element-is}
+use Rattle.walk.specs.Driving.{FillsBytes}
+use Rattle.walk.specs.Learning.{FillsBytesEven}
+use Rattle.fill.specs.Starting.{Planned, Accepted, elementsIn, taskIn, StateOf}
+use Rattle.fill.specs.Ready.{FillsBytesFrom}
 
 way-low : (up : Bool) (k q : ℕ) → q < k → onWay up k q < k
 way-low true k q h = h
@@ -51,33 +49,29 @@ module _ (s : Start) (a : Accepted s) where
       past : {A : Type 0} (x : Section) → s .section ≡ stridedOf x → s .place .0 < count x → A
       past x same l = absurd (omega (arith, ap (λ (v : Strided). v .count) same))
 
-  -- the element i at the place, on cell c
-  module _ (i c q x : ℕ) (h : s .place .0 < s .section .count) (is : i ≡ elementAt (elementsIn (s .section)) (s .place .0))
-      (on : c ≡ cellOf (s .section .layout) i) (column : q ≡ onWay (s .section .upward) (s .section .layout .block) (columnOf (s .section .layout) c))
-      (addr : x ≡ rank (ownerOf (s .section .layout)) i) where
+  -- below it there is: its column q and its address x
+  module _ (q x : ℕ) (h : s .place .0 < s .section .count)
+      (column : q ≡ onWay (s .section .upward) (s .section .layout .block) (columnOf (s .section .layout) (cellAt (s .section) (s .place .0))))
+      (addr : x ≡ rank (ownerOf (s .section .layout)) (indexAt (s .section) (s .place .0))) where
     pub state-on : StateOf s (record { column = q; address = record { 0 = x }; place = s .place; paid = 0 })
-    unfolding columnOf stridedOf columnAt cell address
+    unfolding columnOf stridedOf columnAt
     state-on = record {
       place = refl;
       paid = refl;
-      column = rw column (way-low (s .section .upward) _ _ (mod-lt c (a .started .section-bounded .sized .block-pos)));
+      column = rw column (way-low (s .section .upward) _ _ (mod-lt _ (a .started .section-bounded .sized .block-pos)));
       address = low;
       stands = at;
     }
       where
         at : (y : Section) → firstNo (ofSection y) ≡ 0 → s .section ≡ stridedOf y
             → StandsAt y (s .processor) (record { column = q; address = record { 0 = x }; place = s .place; paid = 0 })
-        at y ok same =
-            let e : (l : s .place .0 < count y) → i ≡ index y (s .place .0) =
-            λ l. is ∙ ap (λ (v : Strided). elementAt (elementsIn v) (s .place .0)) same ∙ element-is y ok (s .place .0) l in
-            record {
-              mine = λ l. owned-at y ok (s .processor) (s .place .0) l ∙ sym (ap (λ (v : Strided). ownedAt v (s .processor) (s .place .0)) same) ∙ a .started .owned h;
-              column = λ l.
-                  column ∙ ap (λ (v : Strided). onWay (v .upward) (v .layout .block) (columnOf (v .layout) c)) same
-                  ∙ ap (λ (z : ℕ). onWay (stridedOf y .upward) (layout y .block) (columnOf (layout y) z))
-                  (on ∙ ap (λ (v : Strided). cellOf (v .layout) i) same ∙ ap (cellOf (layout y)) (e l));
-              address = λ l. addr ∙ ap (λ (v : Strided). rank (ownerOf (v .layout)) i) same ∙ ap (rank (ownerOf (layout y))) (e l);
-            }
+        at y ok same = record {
+          mine = λ l. owned-at y ok (s .processor) (s .place .0) l ∙ sym (ap (λ (v : Strided). ownedAt v (s .processor) (s .place .0)) same) ∙ a .started .owned h;
+          column = λ l.
+              column ∙ ap (λ (v : Strided). onWay (v .upward) (v .layout .block) (columnOf (v .layout) (cellAt v (s .place .0)))) same
+              ∙ ap (λ (z : ℕ). onWay (stridedOf y .upward) (layout y .block) (columnOf (layout y) z)) (sym (cell-at y ok (s .place .0) l));
+          address = λ l. addr ∙ ap (λ (v : Strided). rank (ownerOf (v .layout)) (indexAt v (s .place .0))) same ∙ sym (address-at y ok (s .place .0) l);
+        }
 
         low : x < 4294967296
         low =
@@ -105,49 +99,17 @@ module _ (s : Start) (a : Accepted s) where
 
   -- ---- what a loop gives of every walk that the plan's moves go along, it gives of the section's
 
-  module _ (r : State) (t : StateOf s r) (G : Filled → Type 0) (l : List ℕ) (m : Moves) where
-    by-constant : Planned (s .section) (s .processor) (Constant m)
-        → ((w : Walk) → w .count ≡ s .section .count → (d : Drives w m) → Stands w m (d .paces) r → G (fillBy w (r .place .0) (s .quota) l))
-        → (x : Section) → firstNo (ofSection x) ≡ 0 → s .section ≡ stridedOf x → G (fillBy (walkOf x) (s .place .0) (s .quota) l)
-    unfolding walkOf stridedOf
-    by-constant p f x ok same =
-        let d = p x ok same .2 in
-        subst (λ (z : ℕ). G (fillBy (walkOf x) z (s .quota) l)) (t .place)
-        (f (walkOf x) (sym (ap (λ (v : Strided). v .count) same)) (d .drives) (d .stands r (t .stands x ok same)))
-
-    by-learning : Planned (s .section) (s .processor) (Learnt m) → (e : Elements) → e ≡ elementsIn (s .section)
-        → ((w : Walk) → w .count ≡ s .section .count → (d : Even w m e) → Stands w m (d .paces) r → G (fillBy w (r .place .0) (s .quota) l))
-        → (x : Section) → firstNo (ofSection x) ≡ 0 → s .section ≡ stridedOf x → G (fillBy (walkOf x) (s .place .0) (s .quota) l)
-    unfolding walkOf stridedOf
-    by-learning p e is f x ok same =
-        let d = p x ok same .2 in
-        let g = subst (λ (e : Elements). (w : Walk) → w .count ≡ s .section .count → (d : Even w m e) → Stands w m (d .paces) r → G (fillBy w (r .place .0) (s .quota) l)) (is ∙ ap elementsIn same) f in
-        subst (λ (z : ℕ). G (fillBy (walkOf x) z (s .quota) l)) (t .place)
-        (g (walkOf x) (sym (ap (λ (v : Strided). v .count) same)) (d .even) (d .stands r (t .stands x ok same)))
-
   module _ (r : State) (t : StateOf s r) (m : Moves) (l l′ : List ℕ) (o : Report) where
-    -- into words
-    words : Filled → Type 0
-    words f = f ≡ record { entries = o .entries; tries = o .tries; place = o .place .0; list = l′ }
-
-    pub words-constant : Planned (s .section) (s .processor) (Constant m) → Fills m (s .section .count) (s .quota) r l l′ o → FillsFrom s l l′ o
-    unfolding words
-    words-constant p f = by-constant r t words l m p f
-
-    pub words-learnt : Planned (s .section) (s .processor) (Learnt m) → (e : Elements) → e ≡ elementsIn (s .section)
-        → FillsEven e m (s .section .count) (s .quota) r l l′ o → FillsFrom s l l′ o
-    unfolding words
-    words-learnt p e is f = by-learning r t words l m p e is f
-
-    -- into bytes
-    bytes : Filled → Type 0
-    bytes f = ByteFilled f l l′ o
-
     pub bytes-constant : Planned (s .section) (s .processor) (Constant m) → FillsBytes m (s .section .count) (s .quota) r l l′ o → FillsBytesFrom s l l′ o
-    unfolding bytes
-    bytes-constant p f = by-constant r t bytes (wordsOf 4 l) m p f
+    unfolding walkOf stridedOf
+    bytes-constant p f x ok same =
+        let d = p x ok same .2 in
+        rw (t .place) at (f (walkOf x) (sym (ap (λ (v : Strided). v .count) same)) (d .drives) (d .stands r (t .stands x ok same)))
 
-    pub bytes-learnt : Planned (s .section) (s .processor) (Learnt m) → (e : Elements) → e ≡ elementsIn (s .section)
-        → FillsBytesEven e m (s .section .count) (s .quota) r l l′ o → FillsBytesFrom s l l′ o
-    unfolding bytes
-    bytes-learnt p e is f = by-learning r t bytes (wordsOf 4 l) m p e is f
+    pub bytes-learnt : Planned (s .section) (s .processor) (Learnt m) → (f : Task) → f ≡ taskIn s m → FillsBytesEven f r l l′ o → FillsBytesFrom s l l′ o
+    unfolding walkOf stridedOf
+    bytes-learnt p f is g x ok same =
+        let d = p x ok same .2 in
+        let g′ = subst (λ (z : Elements). FillsBytesEven (record { elements = z; moves = m; count = s .section .count; quota = s .quota }) r l l′ o) (ap elementsIn same)
+        (subst (λ (z : Task). FillsBytesEven z r l l′ o) is g) in
+        rw (t .place) at (g′ (walkOf x) (sym (ap (λ (v : Strided). v .count) same)) (d .even) (d .stands r (t .stands x ok same)))

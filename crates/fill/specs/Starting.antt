@@ -10,10 +10,11 @@ use Rattle.section.specs.Strides.{stridedOf}
 use Rattle.walk.specs.declared.moves.Moves.{Moves}
 use Rattle.walk.specs.declared.moves.State.{State}
 use Rattle.walk.specs.declared.learning.Elements.{Elements}
+use Rattle.walk.specs.declared.learning.Task.{Task}
 use Rattle.fill.specs.declared.ready.Start.{Start}
 use Rattle.fill.specs.declared.plan.Plan.{Plan}
 use Rattle.fill.specs.declared.plan.Plan.the-variants.{Constant, Learnt}
-use Rattle.walk.specs.Moving.{Small}
+use Rattle.walk.specs.Moving.{Small, Still}
 use Rattle.walk.specs.Driving.{Drives, Stands}
 use Rattle.fill.specs.SectionMoves.{StandsAt, elementsOf}
 use Rattle.walk.specs.Learning.{Even}
@@ -38,7 +39,7 @@ pub record Evened (x : Section) (q : ℕ) (m : Moves) : Type 0 where
 -- the plan's moves are within the limits, and go along the section's walk
 abbrev pub PlannedFor : Section → ℕ → Plan → Type 0
 PlannedFor x q (Constant m) = Small m × (m .block ≡ layout x .block) × Driven x q m
-PlannedFor x q (Learnt m) = Small m × (m .block ≡ layout x .block) × Evened x q m
+PlannedFor x q (Learnt m) = Small m × (m .block ≡ layout x .block) × Evened x q m × Still m
 
 abbrev pub Planned : Strided → ℕ → Plan → Type 0
 Planned w q p = (x : Section) → firstNo (ofSection x) ≡ 0 → w ≡ stridedOf x → PlannedFor x q p
@@ -53,6 +54,10 @@ pub record Accepted (s : Start) : Type 0 where
 -- the elements at the section's positions
 abbrev pub elementsIn : Strided → Elements
 elementsIn w = record { layout = w .layout; first = w .first; stride = w .stride; upward = w .upward }
+
+-- the fill along them, by moves that are learnt
+abbrev pub taskIn : Start → Moves → Task
+taskIn s m = record { elements = elementsIn (s .section); moves = m; count = s .section .count; quota = s .quota }
 
 -- the state from which it starts
 pub record StateOf (s : Start) (r : State) : Type 0 where

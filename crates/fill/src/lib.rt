@@ -1,6 +1,6 @@
-// Fills of a lent list with a processor's addresses in a section, into 32-bit words and into
-// bytes. The questions are put in ready.rt; plan.rt finds the moves that drive the section's
-// walk, and start.rt hands them to the loops of the crate walk.
+// Fills of a lent list with a processor's addresses in a section. ready.rt puts the questions,
+// plan.rt finds the moves that drive the section's walk, start.rt hands them to the loops of the
+// crate walk, which fill bytes, and words.rt makes a fill of 32-bit words of fills of bytes.
 ghost use mathlib.Core.Path.{_≡_};
 ghost use Rattle.model.specs.Calls as calls;
 ghost use Rattle.fill.specs.Answers.{outcomeAs, FilledBytes};
@@ -8,12 +8,13 @@ use model::Section;
 use ready::Ready;
 use ready::ask_fill;
 use start::fill_bytes_from;
-use start::fill_from;
 use walk::moves::Report;
+use words::fill_from;
 
 pub mod plan;
 pub mod ready;
 pub mod start;
+pub mod words;
 
 // What a fill reports, or the number of the question that was answered no.
 pub enum Filled {

@@ -2,36 +2,41 @@
 use crate::plan::Plan;
 use crate::plan::plan_of;
 use crate::ready::Start;
-use mapping::dealing::cell_of;
-use mapping::dealing::local_address;
 use model::Address;
 use model::Cell;
+use section::positions::address_at;
+use section::positions::cell_at;
 use section::questions::Strided;
 use walk::bytes::fill_bytes;
 use walk::learning::Elements;
-use walk::learning::element_at;
-use walk::learning_bytes::fill_bytes_learning;
-use walk::learning_words::fill_words_learning;
+use walk::learning::Task;
+use walk::moves::Moves;
 use walk::moves::Report;
 use walk::moves::State;
-use walk::words::fill_words;
+use walk::tables::fill_bytes_learning;
 ghost use mathlib.Core.Path.{_≡_};
 ghost use Rattle.model.specs.Ownership.{columnOf};
 ghost use Rattle.section.specs.Strides.{Bounded};
 ghost use Rattle.fill.specs.SectionMoves.{onWay};
-ghost use Rattle.fill.specs.Starting.{elementsIn, Accepted, StateOf};
-ghost use Rattle.fill.specs.Ready.{FillsFrom, FillsBytesFrom};
+ghost use Rattle.fill.specs.Starting.{taskIn, Accepted, StateOf};
+ghost use Rattle.fill.specs.Ready.{FillsBytesFrom};
 
-// The elements at the section's positions.
-pub fn elements_of(w: Strided) -> Elements
-    ensures { λ r. ⌜ r ≡ elementsIn w ⌝ }
+// The fill along the section's elements, by moves that are learnt.
+fn task_of(s: Start, m: Moves) -> Task
+    ensures { λ r. ⌜ r ≡ taskIn s m ⌝ }
 {
+    let w = s.section;
     let l = w.layout;
-    Elements {
-        layout: l,
-        first: w.first,
-        stride: w.stride,
-        upward: w.upward,
+    Task {
+        elements: Elements {
+            layout: l,
+            first: w.first,
+            stride: w.stride,
+            upward: w.upward,
+        },
+        moves: m,
+        count: w.count,
+        quota: s.quota,
     }
 }
 
@@ -63,26 +68,11 @@ fn state_at(s: Start) -> State
             paid: 0,
         };
     }
-    let l = w.layout;
-    let i = element_at(elements_of(w), w.count, t);
     State {
-        column: column_of(w, cell_of(l, i)),
-        address: local_address(l, i),
+        column: column_of(w, cell_at(w, t)),
+        address: address_at(w, t),
         place: t,
         paid: 0,
-    }
-}
-
-// The fill of a list of 32-bit words.
-pub fn fill_from(s: Start, list: &mut [u32]) -> Report
-    requires { ⌜ Accepted s ⌝ }
-    ensures { λ r. ⌜ FillsFrom s (now (list .entry)) (now (list .exit)) r ⌝ }
-{
-    let w = s.section;
-    let state = state_at(s);
-    match plan_of(w, s.processor) {
-        Plan::Constant(m) => fill_words(m, w.count, s.quota, state, list),
-        Plan::Learnt(m) => fill_words_learning(elements_of(w), m, w.count, s.quota, state, list),
     }
 }
 
@@ -95,6 +85,6 @@ pub fn fill_bytes_from(s: Start, list: &mut [u8]) -> Report
     let state = state_at(s);
     match plan_of(w, s.processor) {
         Plan::Constant(m) => fill_bytes(m, w.count, s.quota, state, list),
-        Plan::Learnt(m) => fill_bytes_learning(elements_of(w), m, w.count, s.quota, state, list),
+        Plan::Learnt(m) => fill_bytes_learning(task_of(s, m), state, list),
     }
 }

@@ -15,7 +15,7 @@ use lib.Signed.{leZ}
 use borrow.Author.Tests.{eqb-true, eqb-false, ltb-true}
 use Rattle.numbers.specs.Words.{wordsOf}
 use Rattle.numbers.proofs.Tests.{both-true, either-true}
-use Rattle.numbers.proofs.SearchLaws.{tally-le, head-le}
+use Rattle.numbers.proofs.SearchLaws.{tally-le}
 use Rattle.numbers.proofs.WordLaws.{words-length}
 use Rattle.model.specs.declared.Section.{Section}
 use Rattle.model.specs.Ownership.{nat, owns, rank, ownerOf}
@@ -25,11 +25,12 @@ use Rattle.model.specs.Filling.{Walk, Filled, stopped, wrote, fillBy, an
 use Rattle.model.specs.Questions.{Question, firstNo, isPlace, ofSection, ofProcessor, ofPlace, ofQuota}
 use Rattle.model.specs.Calls.{FillCall, ofFill, walkOf, requestOf, fill}
 use Rattle.model.specs.Demand3.{FollowsOn, InTurn, InOneList, Demand3}
-use Rattle.model.specs.ByteFills.{ByteFill, inWords, bytesAfter, outcomeOf, callsOf}
+use Rattle.model.specs.ByteFills.{ByteFill, inWords, storeEntries, bytesAfter, outcomeOf, callsOf}
 use Rattle.model.proofs.QuestionLaws.{all-yes, both-yes, accepted}
 use Rattle.model.proofs.SectionLaws.{index-lt}
 use Rattle.model.proofs.AddressLaws.{owns-of}
 use Rattle.model.proofs.WalkTheorem.{Walks, walks}
+use Rattle.model.proofs.Fronts.{fronts}
 use Rattle.model.proofs.ByteStores.{AllFit, stores-rest, stores-words}
 
 -- ---- what a fill leaves in its list
@@ -40,6 +41,9 @@ pub record Written (l : List ℕ) (f : Filled) : Type 0 where
   pub long : length (f .list) ≡ length l
   pub rest : drop (f .entries) (f .list) ≡ drop (f .entries) l
   pub fit : AllFit (take (f .entries) (f .list))
+
+written-number : {l : List ℕ} {f : Filled} → Written l f → length (take (f .entries) (f .list)) ≡ f .entries
+written-number {l} {f} w = length-take-le (f .entries) (f .list) (omega (arith, w .inside, w .long))
 
 stopped-written : (t : ℕ) (l : List ℕ) → Written l (stopped t l)
 stopped-written t l = record { inside = zero-le; long = refl; rest = refl; fit = tt }
@@ -60,6 +64,13 @@ module _ (w : Walk) (low : (t : ℕ) → t < w .count → w .address t < 256 ^ 4
           let v = ih k in
           record { inside = omega (arith, v .inside); long = ap suc (v .long); rest = v .rest; fit = (low t k, v .fit) }
 
+-- the words of the bytes with what a fill of them wrote stored are the list that it leaves
+pub stored-words : (bs : List ℕ) (f : Filled) → Written (wordsOf 4 bs) f → wordsOf 4 (storeEntries bs 0 (take (f .entries) (f .list))) ≡ f .list
+stored-words bs f w =
+    let number : length (take (f .entries) (f .list)) ≡ f .entries = written-number w in
+    stores-words bs 0 (take (f .entries) (f .list)) (omega (arith, number, w .inside, words-length 4 bs)) (w .fit)
+    ∙ rw (number, zero-add, ← w .rest) (take-append-drop (f .entries) (f .list))
+
 -- ---- a section's fill
 
 module _ (x : Section) (ok : firstNo (ofSection x) ≡ 0) (t : ℕ) (h : t < count x) where
@@ -69,11 +80,19 @@ module _ (x : Section) (ok : firstNo (ofSection x) ≡ 0) (t : ℕ) (h : t < cou
   address-low =
       omega (arith, tally-le (owns (ownerOf (layout x)) (ownerOf (layout x) (index x t))) (index x t), index-lt x ok t h, accepted x ok .sized .size-high)
 
+  -- the place after one of processor q is the count or the next one of q
+  next : (q : ℕ) → ownsAt x q t ≡ true → (nextPlace x t ≤ count x) × (nextPlace x t < count x → ownsAt x q (nextPlace x t) ≡ true)
+  unfolding Walks
+  next q mine =
+      let f = fronts (ownsAt x q) (count x - suc t) (suc t) 0 (count x) (omega arith) in
+      rw (walks x ok q t h mine) (f .within, f .passes)
+
   pub next-le : nextPlace x t ≤ count x
-  unfolding ownsAt Walks
-  next-le =
-      let q : ℕ = ownerOf (layout x) (index x t) in
-      rw (walks x ok q t h (owns-of (ownerOf (layout x)) q (index x t) refl)) (head-le (ownsAt x q) (count x) (count x) (count x - suc t) (suc t) (omega arith) (omega arith))
+  unfolding ownsAt
+  next-le = next (ownerOf (layout x) (index x t)) (owns-of (ownerOf (layout x)) _ (index x t) refl) .0
+
+  pub next-owned : (q : ℕ) → ownsAt x q t ≡ true → nextPlace x t < count x → ownsAt x q (nextPlace x t) ≡ true
+  next-owned q mine = next q mine .1
 
 -- a place that passed its question is no larger than the count
 pub place-le : (x : Section) (q t : ℤ) → isPlace x q t ≡ true → nat t ≤ count x
@@ -114,26 +133,15 @@ module _ (c : ByteFill) where
   unfolding inWords
   w = fill-leaves (inWords c)
 
-  abbrev entries : ℕ
-  entries = fill (inWords c) .filled .entries
-
-  abbrev addresses : List ℕ
-  addresses = take entries (fill (inWords c) .filled .list)
-
-  number : length addresses ≡ entries
-  number = length-take-le entries (fill (inWords c) .filled .list) (omega (arith, w .inside, w .long))
-
   -- bytes after the entries written stay, those that are no entry among them
   pub bytes-stay : (m : ℕ) → 4 * fill (inWords c) .filled .entries ≤ m → drop m (bytesAfter c) ≡ drop m (c .bytes)
   unfolding bytesAfter
-  bytes-stay m h = stores-rest (c .bytes) 0 addresses m (omega (arith, number))
+  bytes-stay m h = stores-rest (c .bytes) 0 _ m (omega (arith, written-number w))
 
   -- the words of the bytes afterwards are the list that the fill leaves
   pub words-after : wordsOf 4 (bytesAfter c) ≡ fill (inWords c) .filled .list
   unfolding bytesAfter
-  words-after =
-      stores-words (c .bytes) 0 addresses (omega (arith, number, w .inside, words-length 4 (c .bytes))) (w .fit)
-      ∙ rw (number, zero-add, ← w .rest) (take-append-drop entries (fill (inWords c) .filled .list))
+  words-after = stored-words (c .bytes) (fill (inWords c) .filled) w
 
   pub outcome-is : outcomeOf c ≡ fill (inWords c)
   unfolding outcomeOf

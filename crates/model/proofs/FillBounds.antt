@@ -22,7 +22,7 @@ pub record Within (quota end : ℕ) (f : Filled) : Type 0 where
   pub place : f .place ≤ end
 
 module _ (w : Walk) (some : (t : ℕ) → 1 ≤ w .cost t) (cheap : (t : ℕ) → w .cost t ≤ w .least) (on : (t : ℕ) → t < w .count → w .next t ≤ w .count) where
-  fill-within : (t quota : ℕ) (l : List ℕ) → t ≤ w .count → Within quota (w .count) (fillBy w t quota l)
+  pub fill-within : (t quota : ℕ) (l : List ℕ) → t ≤ w .count → Within quota (w .count) (fillBy w t quota l)
   unfolding fillBy
   fill-within t quota [] h = record { entries = zero-le; tries = zero-le; place = h }
   fill-within t quota (x ∷ xs) h =

@@ -1,28 +1,46 @@
 -- What a loop that fills a list keeps, over any walk: the whole fill is what is done so far, and the fill of what is left.
--- A step may cost as many tries as must be left to go on, and no more. Assumes nothing.
+-- It goes on by one entry, or by the fill of a part of the list. A step may cost as many tries as must be left to go on, and no more. Assumes nothing.
 use Prim.Native.Nat.{ℕ, suc, _+_, _-_, _≤_, _<_}
 use mathlib.Core.Path.{_≡_, refl, sym, ap, _∙_}
-use mathlib.Core.Bool.{true, _||_, or-true}
+use mathlib.Core.Bool.{Bool, true, false, cond, _||_, or-true}
 use mathlib.Core.List.{List, [], _∷_, _++_, append-assoc}
 use native.Mathlib.Nat.{zero-add, add-zero, sub-add-eq, sub-zero, le-refl}
 use native.Mathlib.Numerals.{add-one}
 use native.Mathlib.Omega.{arith}
 use lib.Dec.{eqb, ltb}
-use lib.ListN.{length, getD, take, drop, set, take-append-drop, length-set, drop-of-length-le}
-use lib.Seq.{drop-cons, take-suc-set, drop-set-lt}
-use borrow.Author.Tests.{eq-eqb, ne-eqb, le-ltb, lt-ltb}
+use lib.ListN.{length, getD, take, drop, set, take-append-drop, length-append, length-set, drop-of-length-le}
+use lib.Seq.{
+  drop-cons,
+  take-suc-set,
+  drop-set-lt,
+  length-take-le,
+  take-append-le,
+  drop-append-le,
+  take-append-add,
+  drop-append-add,
+}
+use borrow.Author.Tests.{eq-eqb, ne-eqb, eqb-false, le-ltb, lt-ltb}
 use Rattle.model.specs.Filling.{Walk, Filled, stopped, wrote, fillBy}
 
 -- n entries xs and so many tries were there before what r gives
 abbrev ahead : ℕ → ℕ → List ℕ → Filled → Filled
 ahead n paid xs r = record { entries = n + r .entries; tries = paid + r .tries; place = r .place; list = xs ++ r .list }
 
-ahead-wrote : (n paid a c : ℕ) (xs : List ℕ) (r : Filled) → ahead n paid xs (wrote a c r) ≡ ahead (n + 1) (paid + c) (xs ++ (a ∷ [])) r
-ahead-wrote n paid a c xs r =
-    let p : n + suc (r .entries) ≡ n + 1 + r .entries = omega arith in
-    let q : paid + (c + r .tries) ≡ paid + c + r .tries = omega arith in
-    let s : xs ++ (a ∷ r .list) ≡ (xs ++ (a ∷ [])) ++ r .list = sym (append-assoc xs (a ∷ []) (r .list)) in
+ahead-ahead : (n paid m more : ℕ) (xs ys : List ℕ) (r : Filled) → ahead n paid xs (ahead m more ys r) ≡ ahead (n + m) (paid + more) (xs ++ ys) r
+ahead-ahead n paid m more xs ys r =
+    let p : n + (m + r .entries) ≡ n + m + r .entries = omega arith in
+    let q : paid + (more + r .tries) ≡ paid + more + r .tries = omega arith in
+    let s : xs ++ (ys ++ r .list) ≡ (xs ++ ys) ++ r .list = sym (append-assoc xs ys (r .list)) in
     λ i. record { entries = p i; tries = q i; place = r .place; list = s i }
+
+wrote-ahead : (a c : ℕ) (r : Filled) → wrote a c r ≡ ahead 1 c (a ∷ []) r
+wrote-ahead a c r =
+    let p : suc (r .entries) ≡ 1 + r .entries = omega arith in
+    λ i. record { entries = p i; tries = c + r .tries; place = r .place; list = a ∷ r .list }
+
+-- what r wrote, written over the list l
+abbrev over : Filled → List ℕ → Filled
+over r l = record { entries = r .entries; tries = r .tries; place = r .place; list = take (r .entries) (r .list) ++ drop (r .entries) l }
 
 module _ (w : Walk) where
   -- the fill f is what stands in the list l at place t, with so many tries paid and n entries written, and what the rest gives
@@ -44,6 +62,69 @@ module _ (w : Walk) where
   stops t quota [] e = refl
   stops t quota (x ∷ xs) e = rw e
 
+  -- a fill that can go on writes
+  pub fill-some : (t quota : ℕ) (l : List ℕ) → 0 < length l → (t ≡ w .count → ⊥) → w .least ≤ quota → 0 < fillBy w t quota l .entries
+  fill-some t quota [] some h k = absurd (omega arith)
+  fill-some t quota (x ∷ l) some h k = rw (writes t quota x l h k) (omega arith)
+
+  -- what every step to the next place keeps, a fill keeps
+  pub fill-keeps : (P : ℕ → Type 0) → ((t : ℕ) → (t ≡ w .count → ⊥) → P t → P (w .next t))
+      → (t quota : ℕ) (l : List ℕ) → P t → P (fillBy w t quota l .place)
+  unfolding fillBy
+  fill-keeps P on t quota [] p = p
+  fill-keeps P on t quota (x ∷ l) p =
+      go (fillBy w (w .next t) (quota - w .cost t) l) (λ h. fill-keeps P on (w .next t) (quota - w .cost t) l (on t h p)) (eqb t (w .count)) refl (ltb quota (w .least))
+    where
+      go : (r : Filled) → ((t ≡ w .count → ⊥) → P (r .place)) → (b : Bool) → eqb t (w .count) ≡ b → (c : Bool)
+          → P (cond (b || c) (stopped t (x ∷ l)) (wrote (w .address t) (w .cost t) r) .place)
+      go r ih true e c = p
+      go r ih false e true = p
+      go r ih false e false = ih (eqb-false t (w .count) e)
+
+  -- what a fill writes rests on how long its list is, and on nothing in it
+  pub fill-over : (t quota : ℕ) (k l : List ℕ) → length k ≡ length l → fillBy w t quota l ≡ over (fillBy w t quota k) l
+  unfolding fillBy
+  fill-over t quota [] [] e = refl
+  fill-over t quota [] (y ∷ l) e = absurd (omega arith)
+  fill-over t quota (x ∷ k) [] e = absurd (omega arith)
+  fill-over t quota (x ∷ k) (y ∷ l) e =
+      go (fillBy w (w .next t) (quota - w .cost t) k) (fill-over (w .next t) (quota - w .cost t) k l (omega arith)) (eqb t (w .count) || ltb quota (w .least))
+    where
+      go : (r : Filled) → fillBy w (w .next t) (quota - w .cost t) l ≡ over r l
+          → (b : Bool) → cond b (stopped t (y ∷ l)) (wrote (w .address t) (w .cost t) (fillBy w (w .next t) (quota - w .cost t) l))
+          ≡ over (cond b (stopped t (x ∷ k)) (wrote (w .address t) (w .cost t) r)) (y ∷ l)
+      go r ih true = refl
+      go r ih false = ap (wrote (w .address t) (w .cost t)) ih
+
+  -- what r gives, and then the fill of the entries that it left and of l
+  andThen : ℕ → Filled → List ℕ → Filled
+  andThen quota r l =
+      ahead (r .entries) (r .tries) (take (r .entries) (r .list))
+      (fillBy w (r .place) (quota - r .tries) (drop (r .entries) (r .list) ++ l))
+
+  wrote-then : (quota a c : ℕ) (r : Filled) (l : List ℕ) → wrote a c (andThen (quota - c) r l) ≡ andThen quota (wrote a c r) l
+  unfolding andThen
+  wrote-then quota a c r l =
+      let one : 1 + r .entries ≡ suc (r .entries) = omega arith in
+      wrote-ahead a c (andThen (quota - c) r l)
+      ∙ ahead-ahead 1 c (r .entries) (r .tries) (a ∷ []) (take (r .entries) (r .list)) (fillBy w (r .place) (quota - c - r .tries) (drop (r .entries) (r .list) ++ l))
+      ∙ rw (one, sub-add-eq quota c (r .tries))
+
+  -- a fill of two lists is the fill of the first, and then that
+  fill-append : (t quota : ℕ) (k l : List ℕ) → fillBy w t quota (k ++ l) ≡ andThen quota (fillBy w t quota k) l
+  unfolding fillBy andThen
+  fill-append t quota [] l = simp (zero-add, sub-zero)
+  fill-append t quota (x ∷ k) l = go (fill-append (w .next t) (quota - w .cost t) k l) (eqb t (w .count) || ltb quota (w .least)) refl
+    where
+      r : Filled
+      r = fillBy w (w .next t) (quota - w .cost t) k
+
+      go : fillBy w (w .next t) (quota - w .cost t) (k ++ l) ≡ andThen (quota - w .cost t) r l
+          → (b : Bool) → (eqb t (w .count) || ltb quota (w .least)) ≡ b
+          → fillBy w t quota (x ∷ k ++ l) ≡ andThen quota (cond b (stopped t (x ∷ k)) (wrote (w .address t) (w .cost t) r)) l
+      go ih true e = simp (zero-add, sub-zero)
+      go ih false e = rw e (ap (wrote (w .address t) (w .cost t)) ih ∙ wrote-then quota (w .address t) (w .cost t) r l)
+
   module _ {f : Filled} {quota : ℕ} {l : List ℕ} {t paid n : ℕ} where
     -- one turn: the address is written, then the step is paid for
     pub goes-on : Going f quota l t paid n → n < length l → (t ≡ w .count → ⊥) → w .least ≤ quota - paid → w .cost t ≤ w .least
@@ -55,7 +136,8 @@ module _ (w : Walk) where
           g .is
           ∙ ap (λ (z : List ℕ). ahead n paid (take n l) (fillBy w t (quota - paid) z)) (drop-cons l n 0 h)
           ∙ ap (ahead n paid (take n l)) (writes t (quota - paid) (getD l n 0) (drop (suc n) l) e k)
-          ∙ ahead-wrote n paid (w .address t) (w .cost t) (take n l) (fillBy w (w .next t) (quota - paid - w .cost t) (drop (suc n) l))
+          ∙ ap (ahead n paid (take n l)) (wrote-ahead (w .address t) (w .cost t) _)
+          ∙ ahead-ahead n paid 1 (w .cost t) (take n l) (w .address t ∷ []) _
           ∙ rw (
             add-one,
             take-suc-set l n (w .address t) h,
@@ -63,6 +145,35 @@ module _ (w : Walk) where
             sub-add-eq quota paid (w .cost t),
           );
     }
+
+    -- the fill g of the next entries, so many, and not of those after them
+    pub goes-far : Going f quota l t paid n → (room : ℕ) {g : Filled} → fillBy w t (quota - paid) (take room (drop n l)) ≡ g
+        → g .entries ≤ length (g .list) → g .tries ≤ quota - paid
+        → Going f quota (take n l ++ (g .list ++ drop room (drop n l))) (g .place) (paid + g .tries) (n + g .entries)
+    unfolding andThen
+    goes-far v room {g} e inside cheap =
+        let before : length (take n l) ≡ n = length-take-le n l (v .room) in
+        let rest : List ℕ = drop room (drop n l) in
+        let after : List ℕ = g .list ++ rest in
+        let front : take (n + g .entries) (take n l ++ after) ≡ take n l ++ take (g .entries) (g .list) =
+        ap (λ (m : ℕ). take (m + g .entries) (take n l ++ after)) (sym before)
+        ∙ take-append-add (take n l) after (g .entries)
+        ∙ ap (λ (z : List ℕ). take n l ++ z) (take-append-le (g .entries) (g .list) rest inside) in
+        let back : drop (n + g .entries) (take n l ++ after) ≡ drop (g .entries) (g .list) ++ rest =
+        ap (λ (m : ℕ). drop (m + g .entries) (take n l ++ after)) (sym before)
+        ∙ drop-append-add (take n l) after (g .entries)
+        ∙ drop-append-le (g .entries) (g .list) rest inside in
+        record {
+          room = omega (arith, before, length-append (take n l) (g .list ++ drop room (drop n l)), length-append (g .list) rest);
+          left = omega (arith, v .left);
+          is =
+              v .is
+              ∙ ap (λ (z : List ℕ). ahead n paid (take n l) (fillBy w t (quota - paid) z)) (sym (take-append-drop room (drop n l)))
+              ∙ ap (ahead n paid (take n l)) (fill-append t (quota - paid) (take room (drop n l)) rest)
+              ∙ ap (λ (r : Filled). ahead n paid (take n l) (andThen (quota - paid) r rest)) e
+              ∙ ahead-ahead n paid (g .entries) (g .tries) (take n l) (take (g .entries) (g .list)) _
+              ∙ rw (front, back, sub-add-eq quota paid (g .tries));
+        }
 
     -- nothing more is written
     ends : Going f quota l t paid n → fillBy w t (quota - paid) (drop n l) ≡ stopped t (drop n l)

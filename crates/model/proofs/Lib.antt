@@ -19,6 +19,7 @@ pub mod StepLaws
 pub mod WalkLaws
 pub mod WalkTheorem
 -- fills one after another, and demand 3
+pub mod Fronts
 pub mod InTurnLaws
 pub mod SectionFills
 pub mod NeighbourLaws

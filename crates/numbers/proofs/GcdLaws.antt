@@ -48,9 +48,6 @@ module _ (a b : ℕ) where
   pub gcd-pos-left : 0 < a → 0 < gcd a b
   gcd-pos-left = pos-of-dvd-of-pos gcd-left
 
-  pub gcd-pos-right : 0 < b → 0 < gcd a b
-  gcd-pos-right = pos-of-dvd-of-pos gcd-right
-
 pub gcd-zero : (a : ℕ) → gcd a 0 ≡ a
 unfolding gcd gcdIn
 gcd-zero a = refl

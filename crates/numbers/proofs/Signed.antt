@@ -4,24 +4,10 @@ use mathlib.Core.Path.{_≡_, refl, sym, ap, _∙_, subst}
 use mathlib.Core.Bool.{Bool, true, false, cond, _&&_, false≢true}
 use native.Mathlib.Nat.{div-le-self}
 use native.Mathlib.Omega.{arith}
-use borrow.Author.Tests.{ltb-true, ltb-false, leb-true, le-ltb, lt-ltb, le-leb, lt-leb}
+use borrow.Author.Tests.{ltb-true, ltb-false, leb-true, le-ltb, le-leb, lt-leb}
 use lib.Dec.{T, ltb}
-use lib.IntN.{
-  ℤ,
-  pos,
-  negsuc,
-  negℤ,
-  natAbs,
-  _+ℤ_,
-  _-ℤ_,
-  _*ℤ_,
-  negℤ-+ℤ,
-  negℤ-negℤ,
-  +ℤ-comm,
-  +ℤ-idl,
-  -ℤ-+ℤ-cancel,
-}
-use lib.Signed.{quotZ, leZ, ltZ, nonNeg, pos-natAbs, <ℤ-irrefl, ltZ-yes}
+use lib.IntN.{ℤ, pos, negsuc, negℤ, natAbs, _+ℤ_, _-ℤ_, _*ℤ_, negℤ-+ℤ, negℤ-negℤ, +ℤ-comm}
+use lib.Signed.{quotZ, leZ, ltZ, nonNeg, pos-natAbs}
 use mir.Syntax.{Width}
 use mir.Val.{hbits, SFits, toZ, ofZ}
 use mir.ValLaws.{toZ-ofZ}
@@ -70,10 +56,6 @@ pub minus : (a b : ℕ) → b ≤ a → pos a -ℤ pos b ≡ pos (a - b)
 minus a zero h = ap pos (omega arith)
 minus a (suc b) h = rw (le-ltb a (suc b) h)
 
-pub minus-below : (a b : ℕ) → a < b → pos a -ℤ pos b ≡ negsuc (b - suc a)
-minus-below a zero h = absurd (omega arith)
-minus-below a (suc b) h = rw (lt-ltb a (suc b) h)
-
 not-negative : (a b : ℤ) → leZ a b ≡ true → T (nonNeg (b -ℤ a))
 not-negative (pos zero) (pos b) e = tt
 not-negative (pos (suc a)) (pos b) e = rw (le-ltb b (suc a) (leb-true (suc a) b e)) tt
@@ -109,16 +91,6 @@ lt-le (pos a) (negsuc b) e = absurd (false≢true e)
 lt-le (negsuc a) (pos b) e = refl
 lt-le (negsuc a) (negsuc b) e = le-leb b a (omega (arith, ltb-true b a e))
 
--- a is below b: then b - a is not 0
-pub climbs : (a b : ℤ) → ltZ a b ≡ true → 0 < natAbs (b -ℤ a)
-climbs a b e = go (natAbs (b -ℤ a)) (rises a b (lt-le a b e))
-  where
-    go : (n : ℕ) → b -ℤ a ≡ pos n → 0 < n
-    go zero d =
-        let same : b ≡ a = sym (-ℤ-+ℤ-cancel b a) ∙ ap (λ (z : ℤ). z +ℤ a) d ∙ +ℤ-idl a in
-        absurd (<ℤ-irrefl (ltZ-yes {a = a} {b = a} (subst T (sym (sym (ap (ltZ a) same) ∙ e)) tt)))
-    go (suc n) d = omega arith
-
 -- a signed number in a range that starts at 0 or above
 pub record Ranged (low high : ℕ) (z : ℤ) : Type 0 where
   pub is : z ≡ pos (natAbs z)
@@ -131,14 +103,10 @@ ranged low high (pos n) e =
     record { is = refl; from = leb-true low n (w .0); upto = leb-true n high (w .1) }
 ranged low high (negsuc n) e = absurd (false≢true e)
 
--- a number that is 0 or more, and one that is below n too
+-- a number that is 0 or more
 pub natural : (z : ℤ) → leZ (pos 0) z ≡ true → z ≡ pos (natAbs z)
 natural (pos n) e = refl
 natural (negsuc n) e = absurd (false≢true e)
-
-pub natural-below : (n : ℕ) (z : ℤ) → leZ (pos 0) z ≡ true → ltZ z (pos n) ≡ true → natAbs z < n
-natural-below n (pos i) e l = ltb-true i n l
-natural-below n (negsuc i) e l = absurd (false≢true e)
 
 -- ---- what the machine reads back of a signed number of w bits
 abbrev pub back : Width → ℤ → ℤ

@@ -1,13 +1,13 @@
 -- What is left of a processor's list from a place on is the list without the elements before it.
-use Prim.Native.Nat.{ℕ, zero, suc, _+_, _-_, _*_, _≤_, _<_}
-use mathlib.Core.Path.{_≡_, refl, sym, _∙_, ap}
-use mathlib.Core.Bool.{Bool, true, false}
+use Prim.Native.Nat.{ℕ, _+_, _*_, _≤_, _<_}
+use mathlib.Core.Path.{_≡_, sym, _∙_, ap}
+use mathlib.Core.Bool.{true}
 use mathlib.Core.List.{List, [], _∷_, map, map-append}
 use native.Mathlib.Nat.{zero-add}
 use native.Mathlib.Omega.{arith}
 use lib.ListN.{length, take, drop, take-append-drop}
-use Rattle.numbers.specs.Search.{tally, passing, headOr, sum}
-use Rattle.numbers.proofs.SearchLaws.{tally-none, tally-le, tally-same, passing-yes, passing-no, passing-none, passing-length, sum-append}
+use Rattle.numbers.specs.Search.{tally, sum}
+use Rattle.numbers.proofs.SearchLaws.{tally-none, tally-le, tally-same, passing-length, sum-append}
 use Rattle.model.specs.declared.Section.{Section}
 use Rattle.model.specs.declared.Position.{Position}
 use Rattle.model.specs.Sections.{count, ownsAt, places, firstPlace}
@@ -15,6 +15,7 @@ use Rattle.model.specs.Steps.{cost}
 use Rattle.model.specs.Questions.{firstNo, ofSection}
 use Rattle.model.specs.Calls.{walkOf}
 use Rattle.model.specs.Demand3.{Leads}
+use Rattle.model.proofs.Fronts.{Front, fronts}
 use Rattle.model.proofs.InTurnLaws.{leads-drop}
 use Rattle.model.proofs.SectionFills.{places-lead}
 use Rattle.model.proofs.NeighbourLaws.{cost-le}
@@ -24,36 +25,6 @@ use Rattle.section.proofs.StridedSections.{owned-at, bounded, place-in}
 use Rattle.print.specs.declared.fills.Listed.{Listed}
 use Rattle.print.specs.declared.fills.Rest.{Rest}
 use Rattle.print.specs.Ahead.{Owner, ahead, restOf, StandsIn}
-
--- ---- numbers that pass a test
-
-module _ (f : ℕ → Bool) where
-  -- the place of a list r of numbers that pass, the last of the numbers below N: it is below N only where it passes
-  record Front (N : ℕ) (r : List ℕ) : Type 0 where
-    within : headOr N r ≤ N
-    passes : headOr N r < N → f (headOr N r) ≡ true
-    same : passing f (headOr N r) (N - headOr N r) ≡ r
-
-  end : (N : ℕ) → Front N []
-  unfolding headOr
-  end N =
-      let none : N - N ≡ 0 = omega arith in
-      record { within = omega arith; passes = λ h. absurd (omega arith); same = rw (none, passing-none) }
-
-  fronts : (n a m N : ℕ) → a + n ≡ N → Front N (drop m (passing f a n))
-  unfolding headOr
-  fronts zero a zero N e = rw (passing-none f a) (end N)
-  fronts zero a (suc m) N e = rw (passing-none f a) (end N)
-  fronts (suc n) a m N e = go (f a) refl m (λ k. fronts n (suc a) k N (omega arith))
-    where
-      left : N - a ≡ suc n
-      left = omega arith
-
-      go : (b : Bool) → f a ≡ b → (m : ℕ) → ((k : ℕ) → Front N (drop k (passing f (suc a) n))) → Front N (drop m (passing f a (suc n)))
-      go false p m ih = rw (passing-no f a n p) (ih m)
-      go true p zero ih =
-          rw (passing-yes f a n p) (record { within = omega arith; passes = λ h. p; same = rw left (passing-yes f a n p) })
-      go true p (suc m) ih = rw (passing-yes f a n p) (ih m)
 
 -- ---- a processor's list
 

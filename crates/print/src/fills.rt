@@ -8,7 +8,7 @@ ghost use Rattle.model.specs.Sections.{places};
 ghost use Rattle.model.specs.Steps.{cost};
 ghost use Rattle.print.specs.Ahead.{Owner, restOf, StandsIn, Went};
 use fill::ready::Start;
-use fill::start::fill_from;
+use fill::words::fill_from;
 use model::Position;
 use model::Section;
 use section::elements::elements_of;

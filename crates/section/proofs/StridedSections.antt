@@ -92,12 +92,8 @@ module _ (x : Section) (ok : firstNo (ofSection x) ≡ 0) where
       ap (headOr (count x))
       (passing-same (ownsAt x q) (ownedAt (stridedOf x) q) (count x) 0 (λ t h l. owned-at q t (omega arith)))
 
--- its spread and its steps
+-- its steps
 module _ (x : Section) where
-  pub spread-in : spread x ≡ stridedOf x .layout .stride * stridedOf x .stride
-  unfolding spread stridedOf
-  spread-in = refl
-
   pub steps-in : stepsOf x ≡ stepsIn (stridedOf x)
   unfolding stepsOf stridedOf spread
   steps-in = refl

@@ -2,6 +2,7 @@
 -- written stored one after the other. Assumes nothing.
 use Prim.Native.Nat.{ℕ, zero, suc, _+_, _-_, _/_, _^_, _≤_, _<_}
 use mathlib.Core.Path.{_≡_, refl, ap, _∙_}
+use mathlib.Core.Bool.{true}
 use mathlib.Core.List.{List}
 use mathlib.Core.Logic.{_⊎_, inl, inr}
 use native.Mathlib.Nat.{add-zero, add-suc}
@@ -14,9 +15,10 @@ use Rattle.model.specs.ByteFills.{storeEntry, storeEntries}
 use Rattle.model.proofs.ByteStores.{stores-last}
 use Rattle.walk.specs.declared.moves.Moves.{Moves}
 use Rattle.walk.specs.declared.moves.State.{State}
-use Rattle.walk.specs.Moving.{addFrom, stopAt, Small, Sound}
+use Rattle.walk.specs.Moving.{addFrom, stopAt, hasEnded, Small, Sound}
 use Rattle.walk.specs.Driving.{FillsBytes}
 use Rattle.walk.specs.Bursts.{stepsOn, burstBy, Sure, Starts}
+use Rattle.walk.proofs.MoveLaws.{ended-why}
 use Rattle.walk.proofs.RunLaws.{Runs, run-starts, run-ends}
 use Rattle.walk.proofs.BurstLaws.{steps-within, burst-length, run-bursts}
 
@@ -58,6 +60,12 @@ module _ (m : Moves) (small : Small m) (δ : ℕ → ℕ) (s : State) (v : Sound
 
 -- ---- the loop
 
+-- why it ended, of the words
+pub bytes-why : (bs₀ bs : List ℕ) → length bs ≡ length bs₀ → (count quota n : ℕ) (s : State) → (length bs₀ / 4 ≤ n) ⊎ (hasEnded count quota s ≡ true)
+    → (length (wordsOf 4 bs) ≤ n) ⊎ ((s .place .0 ≡ count) ⊎ (quota - s .paid < 3))
+bytes-why bs₀ bs same count quota n s (inl k) = inl (rw (words-length 4 bs, same) k)
+bytes-why bs₀ bs same count quota n s (inr k) = inr (ended-why count quota s k)
+
 pub record ByteRuns (m : Moves) (count quota : ℕ) (s₀ : State) (bs₀ bs : List ℕ) (s : State) (n : ℕ) : Type 0 where
   pub same : length bs ≡ length bs₀
   pub stored : Stored bs₀ bs n
@@ -82,11 +90,7 @@ module _ {m : Moves} {count quota : ℕ} {s₀ : State} {bs₀ bs : List ℕ} {s
             (run-bursts st (r .runs) sure (rw (words-length 4 bs) fits));
       }
 
-  pub bytes-end : (length bs₀ / 4 ≤ n) ⊎ ((s .place .0 ≡ count) ⊎ (quota - s .paid < 3))
+  pub bytes-end : (length bs₀ / 4 ≤ n) ⊎ (hasEnded count quota s ≡ true)
       → FillsBytes m count quota s₀ bs₀ bs (record { entries = n; tries = s .paid; place = s .place })
-  bytes-end why w e d h = rw (run-ends (r .runs) (go why) w e d h) (record { entries = refl; tries = refl; place = refl; bytes = r .stored })
-    where
-      go : (length bs₀ / 4 ≤ n) ⊎ ((s .place .0 ≡ count) ⊎ (quota - s .paid < 3))
-          → (length (wordsOf 4 bs) ≤ n) ⊎ ((s .place .0 ≡ count) ⊎ (quota - s .paid < 3))
-      go (inl k) = inl (rw (words-length 4 bs, r .same) k)
-      go (inr k) = inr k
+  bytes-end why w e d h =
+      rw (run-ends (r .runs) (bytes-why bs₀ bs (r .same) count quota n s why) w e d h) (record { entries = refl; tries = refl; place = refl; bytes = r .stored })

@@ -6,5 +6,7 @@ pub mod BurstLaws
 pub mod ByteRuns
 -- moves that are learnt
 pub mod LearnLaws
+pub mod SpreadLaws
 pub mod LearnRuns
 pub mod LearnBytes
+pub mod OneEntry

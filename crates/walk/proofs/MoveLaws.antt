@@ -2,13 +2,15 @@
 use Prim.Native.Nat.{ℕ, _+_, _-_, _%_, _≤_, _<_}
 use mathlib.Core.Path.{_≡_, refl, sym, ap, _∙_}
 use mathlib.Core.Bool.{Bool, true, false, cond}
-use native.Mathlib.Nat.{mod-lt, le-refl}
+use mathlib.Core.Logic.{_⊎_, inl, inr}
+use native.Mathlib.Nat.{le-refl}
 use native.Mathlib.Omega.{arith}
 use lib.Dec.{eqb, leb, ltb}
-use borrow.Author.Tests.{leb-true, leb-false, ltb-true, ltb-false, le-leb, lt-leb}
+use borrow.Author.Tests.{leb-true, leb-false, ltb-true, ltb-false, le-leb, lt-leb, eqb-true, eqb-false}
+use Rattle.numbers.proofs.Tests.{either-true, neither-true}
 use Rattle.walk.specs.declared.moves.Moves.{Moves}
 use Rattle.walk.specs.declared.moves.State.{State}
-use Rattle.walk.specs.Moving.{Move, moveFrom, stepped, atMost, Small, Sound}
+use Rattle.walk.specs.Moving.{Move, moveFrom, stepped, atMost, hasEnded, Small}
 
 module _ (m : Moves) (q : ℕ) where
   pub takes-first : q + m .up < m .block → moveFrom m q ≡ record { column = q + m .up; places = m .first; add = m .near; tries = 1 }
@@ -120,10 +122,6 @@ module _ (m : Moves) (s : State) where
     unfolding stepped
     steps-both k = rw (takes-both m (s .column) h pos k)
 
-pub sound-step : (m : Moves) (s : State) → Small m → Sound m s → Sound m (stepped m s)
-unfolding stepped
-sound-step m s small v = record { column = light m (s .column) small (v .column) .column; address = mod-lt _ (omega arith) }
-
 -- ---- a place, or the count
 
 pub at-most-le : (count t : ℕ) → atMost count t ≤ count
@@ -139,3 +137,18 @@ at-most-is count t h = go (ltb t count) refl
     go : (b : Bool) → ltb t count ≡ b → cond b t count ≡ t
     go true e = refl
     go false e = omega (arith, ltb-false t count e)
+
+-- ---- whether a turn is made
+
+module _ (count quota : ℕ) (s : State) where
+  pub ended-why : hasEnded count quota s ≡ true → (s .place .0 ≡ count) ⊎ (quota - s .paid < 3)
+  ended-why e = go (either-true (eqb (s .place .0) count) (ltb (quota - s .paid) 3) e)
+    where
+      go : (eqb (s .place .0) count ≡ true) ⊎ (ltb (quota - s .paid) 3 ≡ true) → (s .place .0 ≡ count) ⊎ (quota - s .paid < 3)
+      go (inl h) = inl (eqb-true (s .place .0) count h)
+      go (inr h) = inr (ltb-true (quota - s .paid) 3 h)
+
+  pub not-ended : hasEnded count quota s ≡ false → (s .place .0 ≡ count → ⊥) × (3 ≤ quota - s .paid)
+  not-ended e =
+      let h = neither-true (eqb (s .place .0) count) (ltb (quota - s .paid) 3) e in
+      ((eqb-false (s .place .0) count (h .0)), ltb-false (quota - s .paid) 3 (h .1))

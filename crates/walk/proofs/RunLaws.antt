@@ -13,7 +13,7 @@ use Rattle.model.proofs.FillLoopLaws.{Going, starts, goes-on, ends-full, ends-p
 use Rattle.walk.specs.declared.moves.Moves.{Moves}
 use Rattle.walk.specs.declared.moves.State.{State}
 use Rattle.walk.specs.Moving.{moveFrom, movedBy, atMost, stopAt, Sound}
-use Rattle.walk.specs.Driving.{Paces, Drives, Stands, Fills}
+use Rattle.walk.specs.Driving.{Paces, Drives, Stands}
 use Rattle.walk.specs.Bursts.{Starts}
 use Rattle.walk.proofs.MoveLaws.{at-most-is}
 
@@ -102,6 +102,7 @@ run-starts m count quota s l v = record {
 
 pub run-ends : {m : Moves} {count quota : ℕ} {s₀ : State} {l₀ l : List ℕ} {s : State} {n : ℕ} → Runs m count quota s₀ l₀ l s n
     → (length l ≤ n) ⊎ ((s .place .0 ≡ count) ⊎ (quota - s .paid < 3))
-    → Fills m count quota s₀ l₀ l (record { entries = n; tries = s .paid; place = s .place })
+    → (w : Walk) → w .count ≡ count → (d : Drives w m) → Stands w m (d .paces) s₀
+    → fillBy w (s₀ .place .0) quota l₀ ≡ record { entries = n; tries = s .paid; place = s .place .0; list = l }
 run-ends r why w e d h =
     ends w _ (d .paces) (r .runs w e d h) (rw e (r .place)) (rw e why)

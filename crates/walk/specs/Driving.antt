@@ -38,21 +38,15 @@ pub record Stands (w : Walk) (m : Moves) (p : Paces w m) (s : State) : Type 0 wh
   pub address : s .place .0 < w .count → s .address .0 ≡ w .address (s .place .0)
   pub mine : s .place .0 < w .count → p .mine (s .place .0) ≡ true
 
--- Whatever walk to that count the moves drive, the fill from a state that stands in it gives what was reported, and the list
--- afterwards.
-abbrev pub Fills : Moves → ℕ → ℕ → State → List ℕ → List ℕ → Report → Type 0
-Fills m count quota s l l′ r =
-    (w : Walk) → w .count ≡ count → (d : Drives w m) → Stands w m (d .paces) s
-    → fillBy w (s .place .0) quota l ≡ record { entries = r .entries; tries = r .tries; place = r .place .0; list = l′ }
-
--- The same of a list of bytes: what is reported is that of the fill f into its words, and each address that f wrote is stored,
--- and nothing else.
+-- A list of bytes after the fill f of its words: what is reported is f's, and each address that f wrote is stored, and nothing
+-- else.
 pub record ByteFilled (f : Filled) (bs bs′ : List ℕ) (r : Report) : Type 0 where
   pub entries : r .entries ≡ f .entries
   pub tries : r .tries ≡ f .tries
   pub place : r .place .0 ≡ f .place
   pub bytes : bs′ ≡ storeEntries bs 0 (take (f .entries) (f .list))
 
+-- Whatever walk to that count the moves drive, the bytes are those after the fill from a state that stands in it.
 abbrev pub FillsBytes : Moves → ℕ → ℕ → State → List ℕ → List ℕ → Report → Type 0
 FillsBytes m count quota s bs bs′ r =
     (w : Walk) → w .count ≡ count → (d : Drives w m) → Stands w m (d .paces) s

@@ -3,3 +3,4 @@ pub mod Moving
 pub mod Driving
 pub mod Bursts
 pub mod Learning
+pub mod Spreading

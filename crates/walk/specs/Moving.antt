@@ -1,7 +1,8 @@
 -- Moves: the step that is taken from a column, and the state that it leads to. Definitions only.
 use Prim.Native.Nat.{ℕ, _+_, _-_, _%_, _≤_, _<_}
-use mathlib.Core.Bool.{true, false, cond}
-use lib.Dec.{ltb}
+use mathlib.Core.Path.{_≡_}
+use mathlib.Core.Bool.{Bool, true, false, cond, _||_}
+use lib.Dec.{ltb, eqb}
 use Rattle.model.specs.Steps.{fits}
 use Rattle.walk.specs.declared.moves.Moves.{Moves}
 use Rattle.walk.specs.declared.moves.State.{State}
@@ -47,6 +48,10 @@ atMost count t = cond (ltb t count) t count
 abbrev pub stopAt : ℕ → State → State
 stopAt count s = record { column = s .column; address = s .address; place = record { 0 = atMost count (s .place .0) }; paid = s .paid }
 
+-- a fill goes on while its place is not the count and at least 3 tries are left
+abbrev pub hasEnded : ℕ → ℕ → State → Bool
+hasEnded count quota s = eqb (s .place .0) count || ltb (quota - s .paid) 3
+
 -- ---- what keeps sums small
 
 pub record Small (m : Moves) : Type 0 where
@@ -69,3 +74,9 @@ pub record Sound (m : Moves) (s : State) : Type 0 where
 pub record Roomy (s : State) : Type 0 where
   pub place : s .place .0 < 4294967296
   pub paid : s .paid < 4294967296
+
+-- moves that leave the address as it is
+pub record Still (m : Moves) : Type 0 where
+  pub near : m .near ≡ 0
+  pub far : m .far ≡ 0
+  pub both : m .both ≡ 0

@@ -88,10 +88,7 @@ pub fn fill_bytes(m: Moves, count: u64, quota: u64, start: State, list: &mut [u8
     let mut s = start;
     let mut n: usize = 0;
     while n < room {
-        if s.place.0 == count {
-            break;
-        }
-        if quota - s.paid < 3 {
+        if moves::has_ended(count, quota, s) {
             break;
         }
         let turns = moves::paid_turns(quota, s.paid, room - n);
@@ -99,10 +96,5 @@ pub fn fill_bytes(m: Moves, count: u64, quota: u64, start: State, list: &mut [u8
         s = moves::stop_at(count, made.state);
         n += made.turns;
     }
-    let place = s.place;
-    Report {
-        entries: n,
-        tries: s.paid,
-        place: place,
-    }
+    moves::report_of(n, s)
 }

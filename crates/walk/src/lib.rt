@@ -1,9 +1,10 @@
-// Fills of a lent list along any walk that moves by columns, into 32-bit words and into bytes.
-// The loops know nothing of sections: a turn only adds and compares, by moves that are constant
-// or that are learnt when they are first made.
+// Fills of a lent list of bytes along any walk that moves by columns. The loops know nothing
+// of sections: a turn only adds and compares, by moves that are constant (bytes.rt) or that are
+// learnt when they are first made (columns.rt and classes.rt; tables.rt chooses).
 pub mod bytes;
+pub mod classes;
+pub mod columns;
 pub mod learning;
-pub mod learning_bytes;
-pub mod learning_words;
 pub mod moves;
-pub mod words;
+pub mod spread;
+pub mod tables;

@@ -5,7 +5,7 @@ use model::Address;
 use model::Position;
 ghost use mathlib.Core.Path.{_≡_};
 ghost use Prim.Native.Nat.{_+_, _*_, _<_, _≤_};
-ghost use Rattle.walk.specs.Moving.{stepped, stopAt, Small, Sound, Roomy};
+ghost use Rattle.walk.specs.Moving.{stepped, stopAt, hasEnded, Small, Sound, Roomy};
 ghost use Rattle.walk.specs.Bursts.{Short};
 
 // How a walk goes on from a column: the columns of a block; by how many columns the
@@ -104,6 +104,26 @@ fn least(a: u64, b: u64) -> u64
     ensures { λ r. ⌜ (r ≤ a) × (r ≤ b) × ((0 < a) → (0 < b) → 0 < r) ⌝ }
 {
     if a < b { a } else { b }
+}
+
+// No turn is made where the place is the count or too few tries are left.
+pub fn has_ended(count: u64, quota: u64, s: State) -> bool
+    requires { ⌜ s .paid ≤ quota ⌝ }
+    ensures { λ r. ⌜ r ≡ hasEnded count quota s ⌝ }
+{
+    s.place.0 == count || quota - s.paid < 3
+}
+
+// What a fill that came to state s with so many entries returns.
+pub fn report_of(entries: usize, s: State) -> Report
+    ensures { λ r. ⌜ r ≡ record { entries = entries; tries = s .paid; place = s .place } ⌝ }
+{
+    let place = s.place;
+    Report {
+        entries,
+        tries: s.paid,
+        place: place,
+    }
 }
 
 // How many turns, of at most `most`, are sure to write: none but the last can reach the count.

@@ -1,9 +1,7 @@
 -- `fill_bytes_from` meets its contract: the loop that the plan names gives the fill along the section's walk.
-use mathlib.Core.Path.{sym, subst}
+use mathlib.Core.Path.{subst}
 use borrow.Author.Needs.{needs}
-use Rattle.walk.specs.declared.learning.Elements.{Elements}
 use Rattle.fill.specs.declared.plan.Plan.the-variants.{Constant, Learnt}
-use Rattle.walk.specs.Learning.{Placed}
 use Rattle.fill.specs.Starting.{Planned}
 use Rattle.fill.proofs.ReadyLaws.{elements-placed}
 use Rattle.fill.proofs.StartLaws.{constant-starts, learnt-starts, bytes-constant, bytes-learnt}
@@ -45,17 +43,22 @@ fill-bytes-requires c κs =
 enum-known-m-2 : tie.Need-enum-known-m-2
 enum-known-m-2 c = search needs
 
-elements-of-requires : tie.Need-elements-of-requires
-elements-of-requires c κs = search needs
+task-of-requires : tie.Need-task-of-requires
+task-of-requires c κs = search needs
 
 fill-bytes-learning-requires : tie.Need-fill-bytes-learning-requires
 fill-bytes-learning-requires c κs =
     let e = c .before in
     let m = e .before .before in
     let p = m .before .before in
-    let s = start p in (
-      subst (λ (z : Elements). Placed z (s .args .s .section .count)) (sym (e .elements-of .ensures)) (elements-placed _ (s .pre .started .section-bounded)),
-      learnt-starts (s .args .s) (s .pre) (p .before .state-at .result) (p .before .state-at .ensures) _ (learnt m),
+    let s = start p in
+    let t = s .pre .taken in
+    rw (e .task-of .ensures) (
+      (
+        elements-placed _ (s .pre .started .section-bounded),
+        learnt-starts (s .args .s) (s .pre) (p .before .state-at .result) (p .before .state-at .ensures) _ (learnt m),
+      ),
+      learnt m (t .source) (t .accepted) (t .same) .3,
     )
 
 same-length : tie.Need-same-length
@@ -79,7 +82,7 @@ returns-2 c =
     let m = e .before .before in
     let p = m .before .before in
     let s = start p in
-    bytes-learnt (s .args .s) (s .pre) (p .before .state-at .result) (p .before .state-at .ensures) _ _ _ (f .fill-bytes-learning .result) (learnt m) _ (e .elements-of .ensures) (f .fill-bytes-learning .ensures)
+    bytes-learnt (s .args .s) (s .pre) (p .before .state-at .result) (p .before .state-at .ensures) _ _ _ (f .fill-bytes-learning .result) (learnt m) _ (e .task-of .ensures) (f .fill-bytes-learning .ensures)
 
 pub fill-bytes-from-spec : {M : Type 1} → statement M
 fill-bytes-from-spec =
@@ -90,7 +93,7 @@ fill-bytes-from-spec =
     enum-known-m
     fill-bytes-requires
     enum-known-m-2
-    elements-of-requires
+    task-of-requires
     fill-bytes-learning-requires
     same-length
     returns

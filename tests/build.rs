@@ -1,5 +1,5 @@
 //! Links the library's archive: from the folder in `HPFADDR_ARCHIVE_DIR`, or else
-//! from the one in which `rt staticlib hpfaddr` leaves it.
+//! from the one in which `tools/archive` leaves it.
 
 use std::env;
 use std::path::{Path, PathBuf};

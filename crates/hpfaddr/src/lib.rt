@@ -1,7 +1,6 @@
-// The C functions of the library, for a Fortran runtime to link: numbers in, a struct of
-// numbers out by value, its first field the refusal. Each hands its numbers to the call of
-// the same name; include/hpfaddr.h and fortran/hpfaddr.f90 declare them. Here stand those
-// of a mapping, in sections.rt those of sections and fills, in assignment.rt that of transfers.
+// The C functions of the library, for a Fortran runtime to link: numbers in, a struct of numbers
+// out by value, its first field the refusal. Here stand those of a mapping, in sections.rt those of
+// sections and fills, in assignment.rt that of transfers; include/ and fortran/ declare them.
 ghost use mathlib.Core.Path.{_≡_};
 ghost use Rattle.model.specs.Calls.{ownership, goingBack, localCount};
 ghost use Rattle.mapping.specs.Answers.{mappingOf};

@@ -1,5 +1,6 @@
 -- What a loop that fills a list keeps, over any walk: the whole fill is what is done so far, and the fill of what is left.
--- It goes on by one entry, or by the fill of a part of the list. A step may cost as many tries as must be left to go on, and no more. Assumes nothing.
+-- It goes on by one entry, or by the fill of a part of the list. A step may cost as many tries as must be left to go on, and
+-- no more. Assumes nothing.
 use Prim.Native.Nat.{ℕ, suc, _+_, _-_, _≤_, _<_}
 use mathlib.Core.Path.{_≡_, refl, sym, ap, _∙_}
 use mathlib.Core.Bool.{Bool, true, false, cond, _||_, or-true}

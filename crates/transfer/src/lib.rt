@@ -1,7 +1,6 @@
-// Transfers of an array assignment left(section) = right(section): the section positions that
-// a sender passes to a receiver, each with its address on the sender and on the receiver. The
-// questions are put in questions.rt; walk.rt walks along the sender's or the receiver's
-// elements, whichever are fewer, and listing.rt writes what is found.
+// Transfers of an array assignment: the section positions that a sender passes to a receiver, each
+// with both addresses. questions.rt puts the questions, walk.rt walks along the sender's or the
+// receiver's elements, whichever are fewer, and listing.rt writes what is found.
 ghost use mathlib.Core.Path.{_≡_};
 ghost use Rattle.model.specs.Transfers.{transfers, ListsAfter};
 ghost use Rattle.transfer.specs.Answers.{callOf, transferredAs, listsOf};

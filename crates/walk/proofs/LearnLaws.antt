@@ -67,7 +67,7 @@ cross a a′ b b′ d l h e = omega arith
 
 -- ---- entries of a table
 
--- a new table knows no move, nor does one of a key that it does not have
+-- a table knows no move of a key that it does not have
 pub unknown-out : (l : List ℕ) (q : ℕ) → length l ≤ q → getD l q 0 ≡ 0
 unknown-out [] q h = refl
 unknown-out (a ∷ l) zero h = absurd (omega arith)

@@ -11,9 +11,9 @@ use start::fill_bytes_from;
 use walk::moves::Report;
 use words::fill_from;
 
-pub mod plan;
+mod plan;
 pub mod ready;
-pub mod start;
+mod start;
 pub mod words;
 
 // What a fill reports, or the number of the question that was answered no.

@@ -1,61 +1,99 @@
--- Places, fills and transfers report numbers that fit 32 bits.
-use Prim.Native.Nat.{ℕ, _^_, _≤_, _<_}
-use mathlib.Core.Path.{_≡_, refl, sym, _∙_}
-use mathlib.Core.Bool.{Bool, true, false}
+-- Every number of an answer fits its field of the C header: those of a mapping by model's `AnswerLaws`, the others here.
+use Prim.Native.Nat.{ℕ, _≤_}
+use mathlib.Core.Path.{_≡_, refl, sym, subst, _∙_}
+use mathlib.Core.Bool.{Bool, true, false, cond}
 use mathlib.Core.List.{_++_}
 use native.Mathlib.Nat.{le-refl}
 use native.Mathlib.Omega.{arith}
 use lib.Dec.{eqb}
-use lib.IntN.{ℤ}
+use lib.IntN.{ℤ, pos}
 use borrow.Author.Tests.{eqb-true, eqb-false}
 use Rattle.numbers.proofs.SearchLaws.{tally-le, head-le}
+use Rattle.numbers.proofs.Signed.{size-neg}
 use Rattle.model.specs.declared.Section.{Section}
+use Rattle.model.specs.declared.Step.{Step}
+use Rattle.model.specs.declared.Steps.{Steps}
+use Rattle.model.specs.declared.Steps.the-variants.{NoStep, OneStep, TwoSteps}
 use Rattle.model.specs.Ownership.{nat}
 use Rattle.model.specs.Sections.{count, ownsAt, places, firstPlace}
+use Rattle.model.specs.Steps.{stepsOf}
 use Rattle.model.specs.Filling.{answer}
 use Rattle.model.specs.Questions.{firstNo, ofSection, ofProcessor, ofPlace, ofQuota}
-use Rattle.model.specs.Calls.{FillCall, ofFill, requestOf, fill, firstPlaceAt}
+use Rattle.model.specs.Calls.{stepsReport, forward, backward, sectionSteps, firstPlaceAt, FillCall, ofFill, requestOf, fill}
 use Rattle.model.specs.Transfers.{TransferCall, isEntry, pairPlaces, ofTransfer, entriesOf, transfers}
 use Rattle.model.proofs.QuestionLaws.{both-yes, stops}
+use Rattle.model.proofs.AnswerLaws.{refusal-le, answered}
+use Rattle.model.proofs.StepSizes.{Low, AllLow, steps-low}
 use Rattle.model.proofs.FillBounds.{fill-bounds}
 use Rattle.model.proofs.TransferLaws.{passing-count}
 use Rattle.section.specs.Strides.{stridedOf}
 use Rattle.section.proofs.StridedSections.{bounded}
+use Rattle.fill.specs.Answers.{reportOf}
 use Rattle.transfer.proofs.CallAnswers.{lacks, never}
-use Rattle.hpfaddr.specs.Fields.{Small}
+use Rattle.hpfaddr.specs.Sizes.{In32, In64, StepFits, StepsFit, PlacedFits, FilledFits, TransferredFits}
+
+-- an answer that is the definition's is as small as the definition's
+pub with-size : {A : Type 0} (P : A → Type 0) {a b : A} → a ≡ b → P b → (a ≡ b) × P a
+with-size P e h = (e, subst P (sym e) h)
 
 count-small : (x : Section) → firstNo (ofSection x) ≡ 0 → count x ≤ 2147483647
 unfolding stridedOf
 count-small x ok = bounded x ok .count-high
 
-pub first-place-small : (x : Section) (q : ℤ) → firstPlaceAt x q .place < 2 ^ 32
-unfolding firstPlaceAt firstPlace places
-first-place-small x q = go (eqb (firstNo (ofSection x ++ ofProcessor (x .mapping) q)) 0) refl
-  where
-    go : (b : Bool) → eqb (firstNo (ofSection x ++ ofProcessor (x .mapping) q)) 0 ≡ b → firstPlaceAt x q .place < 2 ^ 32
-    go true p =
-        let ok = both-yes (ofSection x) (ofProcessor (x .mapping) q) refl (eqb-true _ 0 p) .0 in
-        rw p (omega (arith, head-le (ownsAt x (nat q)) (count x) (count x) (count x) 0 (le-refl _) (omega arith), count-small x ok))
-    go false p = rw p (omega arith)
+-- ---- section steps
 
-place-small : (c : FillCall) → fill c .filled .place < 2 ^ 32
+forward-fits : (r : Step) → Low r → StepFits (forward r)
+forward-fits r l = omega (arith, l .cells, l .courses, l .column)
+
+backward-fits : (r : Step) → Low r → StepFits (backward r)
+backward-fits r l = omega (arith, l .cells, l .courses, l .column, size-neg (pos (r .column)))
+
+report-fits : (n : ℕ) → In64 n → (s : Steps) → AllLow s → StepsFit (stepsReport n s)
+report-fits n h NoStep l = omega arith
+report-fits n h (OneStep r) l = (omega arith, h, omega arith, forward-fits r l, omega arith)
+report-fits n h (TwoSteps r w) l = (omega arith, h, omega arith, forward-fits r (l .0), backward-fits w (l .1))
+
+pub section-steps-small : (x : Section) → StepsFit (sectionSteps x)
+unfolding sectionSteps
+section-steps-small x =
+    answered StepsFit (ofSection x) refl _ _
+    (λ none. report-fits (count x) (omega (arith, count-small x none)) (stepsOf x) (steps-low x none))
+    (λ low. omega arith)
+
+-- ---- first place
+
+pub first-place-small : (x : Section) (q : ℤ) → PlacedFits (firstPlaceAt x q)
+unfolding firstPlaceAt firstPlace places
+first-place-small x q =
+    answered PlacedFits (ofSection x ++ ofProcessor (x .mapping) q) refl _ _
+    (λ none.
+    let ok = both-yes (ofSection x) (ofProcessor (x .mapping) q) refl none .0 in
+    (omega arith, omega (arith, head-le (ownsAt x (nat q)) (count x) (count x) (count x) 0 (le-refl _) (omega arith), count-small x ok)))
+    (λ low. omega arith)
+
+-- ---- fill
+
+place-small : (c : FillCall) → In32 (fill c .filled .place)
 unfolding fill answer requestOf
 place-small c = go (eqb (firstNo (ofFill c)) 0) refl
   where
-    go : (b : Bool) → eqb (firstNo (ofFill c)) 0 ≡ b → fill c .filled .place < 2 ^ 32
+    go : (b : Bool) → eqb (firstNo (ofFill c)) 0 ≡ b → In32 (fill c .filled .place)
     go true p =
         let rest = ofProcessor (c .section .mapping) (c .processor) ++ ofPlace (c .section) (c .processor) (c .place) ++ ofQuota (c .quota) in
         let ok = both-yes (ofSection (c .section)) rest refl (eqb-true _ 0 p) .0 in
         omega (arith, fill-bounds c .place, count-small (c .section) ok)
     go false p = rw p (omega arith)
 
-pub fill-small : (c : FillCall) → (fill c .filled .entries < 2 ^ 32) × (fill c .filled .tries < 2 ^ 32) × (fill c .filled .place < 2 ^ 32)
+pub fill-small : (c : FillCall) → FilledFits (reportOf (fill c))
+unfolding fill answer requestOf
 fill-small c =
     let w = fill-bounds c in
-    (omega (arith, w .entries, w .tries), omega (arith, w .tries), place-small c)
+    (omega (arith, refusal-le 14 (ofFill c) refl), omega (arith, w .entries, w .tries), omega (arith, w .tries), place-small c)
+
+-- ---- transfers
 
 -- a pair has no more entries than its left section has elements
-entries-small : (c : TransferCall) → firstNo (ofSection (c .left)) ≡ 0 → entriesOf c < 2 ^ 32
+entries-small : (c : TransferCall) → firstNo (ofSection (c .left)) ≡ 0 → In32 (entriesOf c)
 unfolding entriesOf pairPlaces
 entries-small c ok =
     let f = isEntry (c .left) (c .right) (nat (c .sender)) (nat (c .receiver)) in
@@ -73,11 +111,13 @@ left-passed c k h e = go (eqb (firstNo (ofSection (c .left))) 0) refl
         is-k ∙ never k (ofSection (c .left)) h is-k
 
 -- so the number of entries, which only 0 and 13 report, is small
-pub transfers-small : (c : TransferCall) → Small (transfers c)
+pub transfers-small : (c : TransferCall) → TransferredFits (transfers c)
 unfolding transfers
-transfers-small c = go (eqb (firstNo (ofTransfer c)) 0) refl (eqb (firstNo (ofTransfer c)) 13) refl
+transfers-small c =
+    answered TransferredFits (ofTransfer c) refl _ _
+    (λ none. (omega arith, entries-small c (left-passed c 0 refl none), omega arith))
+    (λ low. (omega arith, omega arith, needed (eqb (firstNo (ofTransfer c)) 13) refl))
   where
-    go : (a : Bool) → eqb (firstNo (ofTransfer c)) 0 ≡ a → (b : Bool) → eqb (firstNo (ofTransfer c)) 13 ≡ b → Small (transfers c)
-    go true p b q = rw p (entries-small c (left-passed c 0 refl (eqb-true _ 0 p)), omega arith)
-    go false p true q = rw (p, q) (omega arith, entries-small c (left-passed c 13 refl (eqb-true _ 13 q)))
-    go false p false q = rw (p, q) (omega arith, omega arith)
+    needed : (b : Bool) → eqb (firstNo (ofTransfer c)) 13 ≡ b → In32 (cond b (entriesOf c) 0)
+    needed true p = entries-small c (left-passed c 13 refl (eqb-true _ 13 p))
+    needed false p = omega arith

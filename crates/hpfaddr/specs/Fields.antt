@@ -1,5 +1,5 @@
 -- The fields of what each C function returns, as the paper's numbers. Definitions only.
-use Prim.Native.Nat.{ℕ, _^_, _<_}
+use Prim.Native.Nat.{ℕ}
 use mathlib.Core.Path.{_≡_}
 use mathlib.Core.List.{List}
 use lib.IntN.{ℤ}
@@ -58,7 +58,3 @@ transferredFields r = record { refusal = r .refusal; entries = r .entries; neede
 -- a transfer returns what the definition says, and leaves lists that it allows: the order of their entries is open
 abbrev pub TransferredFields : TransferCall → Lists → HpfTransferred → Type 0
 TransferredFields c after r = (transferredFields r ≡ transfers c) × ListsAfter c after
-
--- both numbers of an answer fit a field of 32 bits
-abbrev pub Small : TransferAnswer → Type 0
-Small a = (a .entries < 2 ^ 32) × (a .needed < 2 ^ 32)

@@ -1,2 +1,4 @@
 -- The structs that the C functions return, as the paper's numbers.
 pub mod Fields
+-- and how large these are
+pub mod Sizes

@@ -1,7 +1,8 @@
 // The C function of array assignments: the transfers of a sender and a receiver.
 ghost use mathlib.Core.Path.{_≡_};
 ghost use Rattle.transfer.specs.Answers.{callOf, listsOf, transferredAs};
-ghost use Rattle.hpfaddr.specs.Fields.{sectionFrom, transferredFields, TransferredFields, Small};
+ghost use Rattle.hpfaddr.specs.Fields.{sectionFrom, transferredFields, TransferredFields};
+ghost use Rattle.hpfaddr.specs.Sizes.{TransferredFits};
 use crate::parameters::section_of;
 use transfer::listing::Transferred;
 
@@ -13,7 +14,7 @@ pub struct HpfTransferred {
 }
 
 fn fields_of(t: Transferred) -> HpfTransferred
-    requires { ⌜ Small (transferredAs t) ⌝ }
+    requires { ⌜ TransferredFits (transferredAs t) ⌝ }
     ensures { λ r. ⌜ transferredFields r ≡ transferredAs t ⌝ }
 {
     match t {
@@ -71,6 +72,7 @@ pub extern "C" fn hpf_transfers(
         (listsOf (now (positions .entry)) (now (sent .entry)) (now (received .entry))))
         (listsOf (now (positions .exit)) (now (sent .exit)) (now (received .exit)))
         r ⌝ }
+    ensures { λ r. ⌜ TransferredFits (transferredFields r) ⌝ }
 {
     let left = section_of(
         left_cells,

@@ -5,13 +5,14 @@ ghost use mathlib.Core.Path.{_≡_};
 ghost use Rattle.model.specs.Calls.{ownership, goingBack, localCount};
 ghost use Rattle.mapping.specs.Answers.{mappingOf};
 ghost use Rattle.hpfaddr.specs.Fields.{ownedFields, foundFields, countedFields};
+ghost use Rattle.hpfaddr.specs.Sizes.{OwnedFits, FoundFits, CountedFits};
 use mapping::Counted;
 use mapping::Found;
 use mapping::Owned;
 use parameters::mapping_of;
 
 pub mod assignment;
-pub mod parameters;
+mod parameters;
 pub mod sections;
 
 #[repr(C)]
@@ -33,6 +34,7 @@ pub extern "C" fn hpf_ownership(
     index: i64,
 ) -> HpfOwned
     ensures { λ r. ⌜ ownedFields r ≡ ownership (mappingOf cells processors block stride offset size) index ⌝ }
+    ensures { λ r. ⌜ OwnedFits (ownedFields r) ⌝ }
 {
     let m = mapping_of(cells, processors, block, stride, offset, size);
     match mapping::ownership(m, index) {
@@ -68,6 +70,7 @@ pub extern "C" fn hpf_going_back(
     address: i64,
 ) -> HpfFound
     ensures { λ r. ⌜ foundFields r ≡ goingBack (mappingOf cells processors block stride offset size) processor address ⌝ }
+    ensures { λ r. ⌜ FoundFits (foundFields r) ⌝ }
 {
     let m = mapping_of(cells, processors, block, stride, offset, size);
     match mapping::going_back(m, processor, address) {
@@ -100,6 +103,7 @@ pub extern "C" fn hpf_local_count(
     processor: i64,
 ) -> HpfCounted
     ensures { λ r. ⌜ countedFields r ≡ localCount (mappingOf cells processors block stride offset size) processor ⌝ }
+    ensures { λ r. ⌜ CountedFits (countedFields r) ⌝ }
 {
     let m = mapping_of(cells, processors, block, stride, offset, size);
     match mapping::local_count(m, processor) {

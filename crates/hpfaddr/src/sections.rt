@@ -2,7 +2,8 @@
 ghost use mathlib.Core.Path.{_≡_};
 ghost use Rattle.model.specs.Calls.{noReport, sectionSteps, firstPlaceAt};
 ghost use Rattle.section.specs.Answers.{stepAs};
-ghost use Rattle.hpfaddr.specs.Fields.{stepsFields, placedFields, sectionFrom, FilledFields};
+ghost use Rattle.hpfaddr.specs.Fields.{stepsFields, placedFields, sectionFrom, filledFields, FilledFields};
+ghost use Rattle.hpfaddr.specs.Sizes.{StepsFit, PlacedFits, FilledFits};
 use crate::parameters::section_of;
 use fill::Filled;
 use section::place::Placed;
@@ -70,6 +71,7 @@ pub extern "C" fn hpf_section_steps(
     step: i64,
 ) -> HpfSteps
     ensures { λ r. ⌜ stepsFields r ≡ sectionSteps (sectionFrom cells processors block stride offset size lower upper step) ⌝ }
+    ensures { λ r. ⌜ StepsFit (stepsFields r) ⌝ }
 {
     let x = section_of(
         cells,
@@ -120,6 +122,7 @@ pub extern "C" fn hpf_first_place(
     processor: i64,
 ) -> HpfPlaced
     ensures { λ r. ⌜ placedFields r ≡ firstPlaceAt (sectionFrom cells processors block stride offset size lower upper step) processor ⌝ }
+    ensures { λ r. ⌜ PlacedFits (placedFields r) ⌝ }
 {
     let x = section_of(
         cells,
@@ -170,6 +173,7 @@ pub extern "C" fn hpf_fill(
     list: &mut [u8],
 ) -> HpfFilled
     ensures { λ r. ⌜ FilledFields (sectionFrom cells processors block stride offset size lower upper step) processor place quota (now (list .entry)) (now (list .exit)) r ⌝ }
+    ensures { λ r. ⌜ FilledFits (filledFields r) ⌝ }
 {
     let x = section_of(
         cells,

@@ -1,36 +1,26 @@
 // The program `list`: reads a sheet from standard input, and writes every processor's list of
-// addresses for each of its sections, or the refusal. The crate print makes the text, piece by
-// piece; here it is only read, looped and written.
-ghost use Rattle.print.specs.Turns.{Room};
-use print::pieces::first_piece;
-use print::pieces::next_piece;
+// addresses for each of its sections, or the refusal. The contracts of the crate print say which
+// bytes are to be written. That they are, and what is read, no contract can say: it is tested.
+
+// What is read of the input: a byte more than the longest sheet has.
+const SHEET: usize = 7306;
 
 // A piece has at most 11 bytes for each entry of the list: a blank and 10 digits.
 const ENTRIES: usize = 16384;
 
 const BYTES: usize = 180224;
 
-// What is printed for the sheet `s`, piece by piece. A piece without bytes is the last.
-fn print_sheet(s: &[u8], list: &mut [u32], out: &mut [u8])
-    requires { ⌜ Room (now list) (now out) ⌝ }
-{
-    let opened = first_piece(s, out);
-    let content = opened.content;
-    let mut piece = opened.piece;
-    while 0 < piece.bytes {
-        let n = piece.bytes;
-        io::write_all(1, &out[..n]);
-        let next = piece.next;
-        piece = next_piece(content, next, list, out);
-    }
-}
-
-// No well-formed sheet has more than 7,305 bytes, and a longer one is refused where its first
-// 7,306 bytes are.
 fn main() {
-    let mut sheet = [0u8; 7306];
+    let mut sheet = [0u8; SHEET];
     let mut list = [0u32; ENTRIES];
     let mut out = [0u8; BYTES];
     let n = io::read_full(0, &mut sheet);
-    print_sheet(&sheet[..n], &mut list, &mut out);
+    let opened = print::begin(&sheet, n, &mut out);
+    let content = opened.content;
+    let mut piece = opened.piece;
+    while 0 < piece.bytes {
+        let end = piece.bytes;
+        io::write_all(1, &out[..end]);
+        piece = print::go_on(content, piece, &mut list, &mut out);
+    }
 }

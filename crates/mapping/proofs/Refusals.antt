@@ -5,8 +5,8 @@ use mathlib.Core.List.{List, [], _∷_}
 use lib.IntN.{ℤ, pos}
 use Rattle.numbers.proofs.Tests.{both-true}
 use Rattle.model.specs.declared.Mapping.{Mapping}
-use Rattle.model.specs.Questions.{Question, ask, firstNo, between, most, cellsFit, ofMapping}
-use Rattle.model.proofs.QuestionLaws.{AllYes, all-yes, asks-on, none-no, stops, Natural, between-is}
+use Rattle.model.specs.Questions.{Question, ask, firstNo, AllYes, between, most, cellsFit, ofMapping}
+use Rattle.model.proofs.QuestionLaws.{all-yes, asks-on, none-no, stops, Natural, between-is}
 use Rattle.mapping.specs.Answers.{mappingOf, ofDealing}
 
 module _ (t p k a b n : ℤ) where

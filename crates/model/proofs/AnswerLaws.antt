@@ -1,21 +1,50 @@
 -- What answers to ownership, going back and local count say of one another, and how large their numbers are.
-use Prim.Native.Nat.{ℕ, _^_, _<_}
+use Prim.Native.Nat.{ℕ, _^_, _≤_, _<_, zero-le}
 use mathlib.Core.Path.{_≡_, refl, _∙_}
-use mathlib.Core.Bool.{Bool, true, false}
-use mathlib.Core.List.{_++_}
+use mathlib.Core.Bool.{Bool, true, false, cond, _&&_}
+use mathlib.Core.List.{List, [], _∷_, _++_}
 use native.Mathlib.Omega.{arith}
-use lib.Dec.{eqb}
+use lib.Dec.{leb, eqb}
 use lib.IntN.{ℤ, pos}
-use borrow.Author.Tests.{eqb-true, eqb-false, eq-eqb}
+use borrow.Author.Tests.{leb-true, eqb-true, eqb-false, eq-eqb}
+use Rattle.numbers.proofs.Tests.{both-true}
 use Rattle.model.specs.declared.Mapping.{Mapping}
 use Rattle.model.specs.Ownership.{nat, layoutOf, ownerOf, rank, held, backTo}
-use Rattle.model.specs.Questions.{firstNo, isIndex, ofMapping, ofProcessor, ofIndex, ofAddress}
-use Rattle.model.specs.Calls.{ownership, goingBack, localCount}
+use Rattle.model.specs.Questions.{Question, firstNo, isIndex, ofMapping, ofProcessor, ofIndex, ofAddress}
+use Rattle.model.specs.Calls.{OwnershipAnswer, ownership, GoingBackAnswer, goingBack, LocalCountAnswer, localCount}
 use Rattle.model.specs.Demand2.{LeadsBack}
 use Rattle.model.proofs.QuestionLaws.{Below, all-yes, none-no, both-yes, asks-on, below-is, is-below, index-is, mapped}
 use Rattle.model.proofs.AddressLaws.{rank-lt, back-rank, rank-back}
 use Rattle.model.proofs.HeldLaws.{held-le}
 use Rattle.model.proofs.Demand2Holds.{owner-lt}
+
+-- ---- what holds of an answer and of a refusal
+
+-- no question's number is above b
+abbrev pub numberedTo : ℕ → List Question → Bool
+numberedTo b [] = true
+numberedTo b (q ∷ qs) = leb (q .number) b && numberedTo b qs
+
+pub refusal-le : (b : ℕ) (qs : List Question) → numberedTo b qs ≡ true → firstNo qs ≤ b
+unfolding firstNo
+refusal-le b [] h = zero-le
+refusal-le b (q ∷ qs) h = go (refusal-le b qs (each .1)) (q .holds) refl
+  where
+    each : (leb (q .number) b ≡ true) × (numberedTo b qs ≡ true)
+    each = both-true (leb (q .number) b) (numberedTo b qs) h
+
+    go : firstNo qs ≤ b → (t : Bool) → q .holds ≡ t → firstNo (q ∷ qs) ≤ b
+    go ih true p = rw p ih
+    go ih false p = rw p (leb-true (q .number) b (each .0))
+
+-- a call's answer is a where no question is answered no, and else r, the refusal; there are 14 questions
+pub answered : {A : Type 0} (P : A → Type 0) (qs : List Question) → numberedTo 14 qs ≡ true → (a r : A)
+    → (firstNo qs ≡ 0 → P a) → (firstNo qs ≤ 14 → P r) → P (cond (eqb (firstNo qs) 0) a r)
+answered P qs h a r accepted refused = go (eqb (firstNo qs) 0) refl
+  where
+    go : (t : Bool) → eqb (firstNo qs) 0 ≡ t → P (cond t a r)
+    go true p = accepted (eqb-true (firstNo qs) 0 p)
+    go false p = refused (refusal-le 14 qs h)
 
 module _ (m : Mapping) where
   abbrev owner : ℕ → ℕ
@@ -31,14 +60,18 @@ module _ (m : Mapping) where
     pub index : Below i size
     pub is : ownership m i ≡ record { refusal = 0; processor = owner (nat i); address = rank owner (nat i) }
 
+  -- what a yes to all questions says, as ownership asks them
+  index-in : (i : ℤ) → firstNo (ofMapping m ++ ofIndex m i) ≡ 0 → (firstNo (ofMapping m) ≡ 0) × Below i size
+  index-in i none =
+      let r = both-yes (ofMapping m) (ofIndex m i) refl none in
+      (r .0, index-is m i (all-yes (ofIndex m i) refl (r .1) .0))
+
   pub owning : (i : ℤ) → ownership m i .refusal ≡ 0 → Owning i
   unfolding ownership
   owning i e = go (eqb (firstNo (ofMapping m ++ ofIndex m i)) 0) refl
     where
       go : (b : Bool) → eqb (firstNo (ofMapping m ++ ofIndex m i)) 0 ≡ b → Owning i
-      go true p =
-          let r = both-yes (ofMapping m) (ofIndex m i) refl (eqb-true (firstNo (ofMapping m ++ ofIndex m i)) 0 p) in
-          record { mapping = r .0; index = index-is m i (all-yes (ofIndex m i) refl (r .1) .0); is = rw p }
+      go true p = let r = index-in i (eqb-true _ 0 p) in record { mapping = r .0; index = r .1; is = rw p }
       go false p = absurd (eqb-false (firstNo (ofMapping m ++ ofIndex m i)) 0 p (rw p at e))
 
   pub record Leading (q x : ℤ) : Type 0 where
@@ -47,15 +80,23 @@ module _ (m : Mapping) where
     pub address : Below x (held owner size (nat q))
     pub is : goingBack m q x ≡ record { refusal = 0; index = backTo owner size (nat q) (nat x) }
 
+  -- and as going back does
+  address-in : (q x : ℤ) → firstNo (ofMapping m ++ ofProcessor m q ++ ofAddress m q x) ≡ 0
+      → (firstNo (ofMapping m) ≡ 0) × Below q (layoutOf m .processors) × Below x (held owner size (nat q))
+  unfolding layoutOf nat
+  address-in q x none =
+      let r = both-yes (ofMapping m) (ofProcessor m q ++ ofAddress m q x) refl none in
+      let a = all-yes (ofProcessor m q ++ ofAddress m q x) refl (r .1) in
+      (r .0, below-is q (m .processors) (a .0), below-is x _ (a .1 .0))
+
   pub leading : (q x : ℤ) → goingBack m q x .refusal ≡ 0 → Leading q x
   unfolding goingBack layoutOf nat
   leading q x e = go (eqb (firstNo (ofMapping m ++ ofProcessor m q ++ ofAddress m q x)) 0) refl
     where
       go : (b : Bool) → eqb (firstNo (ofMapping m ++ ofProcessor m q ++ ofAddress m q x)) 0 ≡ b → Leading q x
       go true p =
-          let r = both-yes (ofMapping m) (ofProcessor m q ++ ofAddress m q x) refl (eqb-true _ 0 p) in
-          let a = all-yes (ofProcessor m q ++ ofAddress m q x) refl (r .1) in
-          record { mapping = r .0; processor = below-is q (m .processors) (a .0); address = below-is x _ (a .1 .0); is = rw p }
+          let r = address-in q x (eqb-true _ 0 p) in
+          record { mapping = r .0; processor = r .1; address = r .2; is = rw p }
       go false p = absurd (eqb-false (firstNo (ofMapping m ++ ofProcessor m q ++ ofAddress m q x)) 0 p (rw p at e))
 
   -- ---- there and back
@@ -88,28 +129,37 @@ module _ (m : Mapping) where
       ∙ none-no (ofIndex m (pos i)) (is-below i (m .size) (b .inside), tt) in
       rw (w .is, eq-eqb (firstNo (ofMapping m ++ ofIndex m (pos i))) 0 none, b .processor, b .address)
 
-  -- ---- every number of an answer fits 32 bits
+  -- ---- every number of an answer is below 2^31
 
-  pub ownership-small : (i : ℤ) → ownership m i .refusal ≡ 0 → (ownership m i .processor < 2 ^ 32) × (ownership m i .address < 2 ^ 32)
-  ownership-small i e =
-      let w = owning i e in
-      let s = mapped m (w .mapping) in
-      rw (w .is) (
+  pub ownership-small : (i : ℤ) → (ownership m i .refusal < 2 ^ 31) × (ownership m i .processor < 2 ^ 31) × (ownership m i .address < 2 ^ 31)
+  unfolding ownership
+  ownership-small i =
+      answered (λ (a : OwnershipAnswer). (a .refusal < 2 ^ 31) × (a .processor < 2 ^ 31) × (a .address < 2 ^ 31))
+      (ofMapping m ++ ofIndex m i) refl _ _
+      (λ none.
+      let r = index-in i none in
+      let s = mapped m (r .0) in (
+        omega arith,
         omega (arith, owner-lt (layoutOf m) (s .processors-pos) (nat i)),
-        omega (arith, rank-lt owner size (owner (nat i)) (nat i) (w .index .below) refl, held-le owner (owner (nat i)) size),
-      )
+        omega (arith, rank-lt owner size (owner (nat i)) (nat i) (r .1 .below) refl, held-le owner (owner (nat i)) size),
+      ))
+      (λ low. omega arith)
 
-  pub going-back-small : (q x : ℤ) → goingBack m q x .refusal ≡ 0 → goingBack m q x .index < 2 ^ 32
-  going-back-small q x e =
-      let w = leading q x e in
-      rw (w .is) (omega (arith, rank-back owner size (nat q) (nat x) (w .address .below) .inside, mapped m (w .mapping) .size-high))
+  pub going-back-small : (q x : ℤ) → (goingBack m q x .refusal < 2 ^ 31) × (goingBack m q x .index < 2 ^ 31)
+  unfolding goingBack layoutOf
+  going-back-small q x =
+      answered (λ (a : GoingBackAnswer). (a .refusal < 2 ^ 31) × (a .index < 2 ^ 31))
+      (ofMapping m ++ ofProcessor m q ++ ofAddress m q x) refl _ _
+      (λ none.
+      let r = address-in q x none in
+      (omega arith, omega (arith, rank-back owner size (nat q) (nat x) (r .2 .below) .inside, mapped m (r .0) .size-high)))
+      (λ low. omega arith)
 
-  pub local-count-small : (q : ℤ) → localCount m q .elements < 2 ^ 32
+  pub local-count-small : (q : ℤ) → (localCount m q .refusal < 2 ^ 31) × (localCount m q .elements < 2 ^ 31)
   unfolding localCount layoutOf
-  local-count-small q = go (eqb (firstNo (ofMapping m ++ ofProcessor m q)) 0) refl
-    where
-      go : (b : Bool) → eqb (firstNo (ofMapping m ++ ofProcessor m q)) 0 ≡ b → localCount m q .elements < 2 ^ 32
-      go true p =
-          let r = both-yes (ofMapping m) (ofProcessor m q) refl (eqb-true (firstNo (ofMapping m ++ ofProcessor m q)) 0 p) in
-          rw p (omega (arith, held-le owner (nat q) size, mapped m (r .0) .size-high))
-      go false p = rw p (omega arith)
+  local-count-small q =
+      answered (λ (a : LocalCountAnswer). (a .refusal < 2 ^ 31) × (a .elements < 2 ^ 31)) (ofMapping m ++ ofProcessor m q) refl _ _
+      (λ none.
+      let r = both-yes (ofMapping m) (ofProcessor m q) refl none in
+      (omega arith, omega (arith, held-le owner (nat q) size, mapped m (r .0) .size-high)))
+      (λ low. omega arith)

@@ -1,32 +1,27 @@
--- Byte fills leave the words of the fills that they stand for, and the bytes that are no entry as they were; so demand 3 of
--- them is that of those fills. Assumes nothing.
+-- Byte fills leave the words of the fills that they stand for, and the bytes that are no entry as they were. Assumes nothing.
 use Prim.Native.Nat.{ℕ, suc, _-_, _*_, _^_, _≤_, _<_, zero-le}
 use mathlib.Core.Path.{_≡_, refl, ap, _∙_}
-use mathlib.Core.Bool.{Bool, true, false, cond, _&&_, _||_}
-use mathlib.Core.List.{List, [], _∷_, _++_, map}
-use mathlib.Core.Logic.{_⊎_, inl, inr}
+use mathlib.Core.Bool.{Bool, true, false, cond, _||_}
+use mathlib.Core.List.{List, [], _∷_}
 use native.Mathlib.Nat.{zero-add}
 use native.Mathlib.Omega.{arith}
 use lib.Dec.{ltb, eqb}
-use lib.IntN.{ℤ, pos}
 use lib.ListN.{length, take, drop, take-append-drop}
 use lib.Seq.{length-take-le}
-use lib.Signed.{leZ}
-use borrow.Author.Tests.{eqb-true, eqb-false, ltb-true}
+use borrow.Author.Tests.{eqb-false}
 use Rattle.numbers.specs.Words.{wordsOf}
-use Rattle.numbers.proofs.Tests.{both-true, either-true}
 use Rattle.numbers.proofs.SearchLaws.{tally-le}
 use Rattle.numbers.proofs.WordLaws.{words-length}
 use Rattle.model.specs.declared.Section.{Section}
 use Rattle.model.specs.Ownership.{nat, owns, rank, ownerOf}
-use Rattle.model.specs.Sections.{layout, count, index, address, ownsAt, places, firstPlace}
+use Rattle.model.specs.Sections.{layout, count, index, address, ownsAt}
 use Rattle.model.specs.Steps.{nextPlace}
-use Rattle.model.specs.Filling.{Walk, Filled, stopped, wrote, fillBy, answer, standing}
-use Rattle.model.specs.Questions.{Question, firstNo, isPlace, ofSection, ofProcessor, ofPlace, ofQuota}
-use Rattle.model.specs.Calls.{FillCall, ofFill, walkOf, requestOf, fill}
-use Rattle.model.specs.Demand3.{FollowsOn, InTurn, InOneList, Demand3}
-use Rattle.model.specs.ByteFills.{ByteFill, inWords, storeEntries, bytesAfter, outcomeOf, callsOf}
-use Rattle.model.proofs.QuestionLaws.{all-yes, both-yes, accepted}
+use Rattle.model.specs.Filling.{Walk, Filled, stopped, wrote, fillBy}
+use Rattle.model.specs.Questions.{firstNo, ofSection}
+use Rattle.model.specs.Calls.{FillCall, walkOf, fill}
+use Rattle.model.specs.ByteFills.{ByteFill, inWords, storeEntries, bytesAfter, outcomeOf}
+use Rattle.model.proofs.QuestionLaws.{accepted}
+use Rattle.model.proofs.FillCalls.{fill-cases}
 use Rattle.model.proofs.SectionLaws.{index-lt}
 use Rattle.model.proofs.AddressLaws.{owns-of}
 use Rattle.model.proofs.WalkTheorem.{Walks, walks}
@@ -47,6 +42,9 @@ written-number {l} {f} w = length-take-le (f .entries) (f .list) (omega (arith, 
 
 stopped-written : (t : ℕ) (l : List ℕ) → Written l (stopped t l)
 stopped-written t l = record { inside = zero-le; long = refl; rest = refl; fit = tt }
+
+unwritten : (l : List ℕ) (f : Filled) → f .entries ≡ 0 → f .list ≡ l → Written l f
+unwritten l f e d = record { inside = omega arith; long = ap length d; rest = ap (drop (f .entries)) d; fit = rw e tt }
 
 module _ (w : Walk) (low : (t : ℕ) → t < w .count → w .address t < 256 ^ 4) (on : (t : ℕ) → t < w .count → w .next t ≤ w .count) where
   pub fill-written : (t quota : ℕ) (l : List ℕ) → t ≤ w .count → Written l (fillBy w t quota l)
@@ -94,37 +92,14 @@ module _ (x : Section) (ok : firstNo (ofSection x) ≡ 0) (t : ℕ) (h : t < cou
   pub next-owned : (q : ℕ) → ownsAt x q t ≡ true → nextPlace x t < count x → ownsAt x q (nextPlace x t) ≡ true
   next-owned q mine = next q mine .1
 
--- a place that passed its question is no larger than the count
-pub place-le : (x : Section) (q t : ℤ) → isPlace x q t ≡ true → nat t ≤ count x
-unfolding isPlace
-place-le x q t e = go (either-true (eqb (nat t) (count x)) _ (both-true (leZ (pos 0) t) _ e .1))
-  where
-    go : (eqb (nat t) (count x) ≡ true) ⊎ ((ltb (nat t) (count x) && ownsAt x (nat q) (nat t)) ≡ true) → nat t ≤ count x
-    go (inl p) = omega (arith, eqb-true (nat t) (count x) p)
-    go (inr p) = omega (arith, ltb-true (nat t) (count x) (both-true (ltb (nat t) (count x)) _ p .0))
-
 pub fill-leaves : (c : FillCall) → Written (c .list) (fill c .filled)
-unfolding fill answer requestOf walkOf
-fill-leaves c = go (eqb (firstNo (ofFill c)) 0) refl
-  where
-    x : Section
-    x = c .section
-
-    before : List Question
-    before = ofSection (c .section) ++ ofProcessor (c .section .mapping) (c .processor)
-
-    place : List Question
-    place = ofPlace (c .section) (c .processor) (c .place)
-
-    go : (b : Bool) → eqb (firstNo (ofFill c)) 0 ≡ b
-        → Written (c .list) (cond b (fillBy (walkOf (c .section)) (nat (c .place)) (nat (c .quota)) (c .list)) (stopped 0 (c .list)))
-    go true e =
-        let yes = both-yes (before ++ place) (ofQuota (c .quota)) refl (eqb-true _ 0 e) .0 in
-        let both = both-yes before place refl yes in
-        let ok = both-yes (ofSection (c .section)) (ofProcessor (c .section .mapping) (c .processor)) refl (both .0) .0 in
-        fill-written (walkOf (c .section)) (λ t h. omega (arith, address-low (c .section) ok t h)) (next-le (c .section) ok)
-        (nat (c .place)) (nat (c .quota)) (c .list) (place-le (c .section) (c .processor) (c .place) (all-yes place refl (both .1) .0))
-    go false e = stopped-written 0 (c .list)
+unfolding walkOf
+fill-leaves c =
+    fill-cases c (Written (c .list))
+    (λ y.
+    fill-written (walkOf (c .section)) (λ t h. omega (arith, address-low (c .section) (y .section) t h)) (next-le (c .section) (y .section))
+    (nat (c .place)) (nat (c .quota)) (c .list) (y .place))
+    (λ f z. unwritten (c .list) f (z .0 .0) (z .1))
 
 -- ---- a byte fill
 
@@ -146,21 +121,3 @@ module _ (c : ByteFill) where
   pub outcome-is : outcomeOf c ≡ fill (inWords c)
   unfolding outcomeOf
   outcome-is = rw words-after
-
-pub outcomes-are : (cs : List ByteFill) → map outcomeOf cs ≡ map fill (callsOf cs)
-unfolding callsOf
-outcomes-are [] = refl
-outcomes-are (c ∷ cs) = cc (outcome-is c, outcomes-are cs)
-
--- ---- demand 3
-module _ (x : Section) (d : Demand3 x) where
-  pub byte-fills : (q : ℕ) → q < layout x .processors → (cs : List ByteFill) → FollowsOn x q (firstPlace x q) (callsOf cs)
-      → InTurn (walkOf x) (places x q) (map requestOf (callsOf cs)) (map outcomeOf cs)
-  byte-fills q h cs fs = rw (outcomes-are cs) (d .fills q h (callsOf cs) fs)
-
-  pub byte-once :
-      (runs : ℕ → List ByteFill)
-      → ((q : ℕ) → q < layout x .processors
-      → FollowsOn x q (firstPlace x q) (callsOf (runs q)) × (standing (firstPlace x q) (map outcomeOf (runs q)) ≡ count x))
-      → (t : ℕ) → t < count x → InOneList x (λ q. callsOf (runs q)) t
-  byte-once runs all = d .once (λ q. callsOf (runs q)) (λ q h. (all q h .0, rw (outcomes-are (runs q)) at (all q h .1)))

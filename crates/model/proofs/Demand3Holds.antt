@@ -1,111 +1,44 @@
--- Demand 3 holds of every accepted section. Assumes nothing.
-use Prim.Native.Nat.{ℕ, zero, suc, _<_, zero-le}
-use mathlib.Core.Path.{_≡_, refl, sym, ap, _∙_}
-use mathlib.Core.List.{List, [], _∷_, _++_, map, append-nil}
-use native.Mathlib.Nat.{not-suc-le-zero, le-of-suc-le-suc}
-use native.Mathlib.Omega.{arith}
-use lib.ListN.{length, getD, take, drop, length-map, take-append-drop}
-use Rattle.numbers.specs.Search.{tally}
-use Rattle.numbers.proofs.SearchLaws.{tally-none, listed, found}
+-- Demand 3 holds of every accepted section, for fills of words and for fills of bytes. Assumes nothing.
+use mathlib.Core.Path.{_≡_, refl}
+use mathlib.Core.List.{[], _∷_}
+use lib.IntN.{pos}
+use Rattle.numbers.specs.Words.{valueOf, wordsIn, wordsOf}
 use Rattle.model.specs.declared.Section.{Section}
-use Rattle.model.specs.Ownership.{ownerOf, rank, backTo}
-use Rattle.model.specs.Sections.{layout, count, index, address, ownsAt, places, firstPlace}
-use Rattle.model.specs.Filling.{got, reported, standing}
+use Rattle.model.specs.Ownership.{ownerOf}
+use Rattle.model.specs.Sections.{layout}
 use Rattle.model.specs.Questions.{firstNo, ofSection}
-use Rattle.model.specs.Calls.{FillCall, walkOf, fill}
-use Rattle.model.specs.Demand3.{FollowsOn, StandsFor, InOneList, Demand3}
-use Rattle.model.proofs.QuestionLaws.{accepted}
-use Rattle.model.proofs.Demand2Holds.{owner-lt}
-use Rattle.model.proofs.SectionLaws.{index-lt, index-inj}
-use Rattle.model.proofs.AddressLaws.{owns-of, of-owns, back-rank, no-gap}
-use Rattle.model.proofs.InTurnLaws.{leads-drop, leads-done}
-use Rattle.model.proofs.SectionFills.{places-lead, section-fills}
+use Rattle.model.specs.ByteFills.{inWords}
+use Rattle.model.specs.Demand3.{Form, inWordLists, inByteLists, Demand3}
+use Rattle.model.proofs.AddressLaws.{no-gap}
+use Rattle.model.proofs.SectionFills.{Same, section-fills}
 use Rattle.model.proofs.NeighbourLaws.{cost-le, neighbours-apart}
+use Rattle.model.proofs.OnceLaws.{once}
+use Rattle.model.proofs.FillsExist.{oneEntry, Asks, one-more, runs-exist}
+use Rattle.model.proofs.ByteFillsHold.{outcome-is}
 
-pub getD-map : (g : ℕ → ℕ) (l : List ℕ) (j : ℕ) → j < length l → getD (map g l) j 0 ≡ g (getD l j 0)
-getD-map g [] j h = absurd (not-suc-le-zero h)
-getD-map g (x ∷ l) zero h = refl
-getD-map g (x ∷ l) (suc j) h = getD-map g l j (le-of-suc-le-suc h)
+in-form : (f : Form) → Same f → Asks f → (x : Section) → firstNo (ofSection x) ≡ 0 → Demand3 f x
+in-form f same asks x ok = record {
+  fills = λ q h. section-fills f same x q ok;
+  once = once f same x ok;
+  goes-on = one-more f same x ok;
+  reaches = runs-exist f same x ok asks;
+  no-gap = no-gap (ownerOf (layout x)) (layout x .size);
+  neighbours = neighbours-apart x ok;
+  cheap = cost-le x;
+}
 
--- what stands at place j of processor q's list
-pub record At (x : Section) (q j t : ℕ) : Type 0 where
-  pub below : t < count x
-  pub owner : ownerOf (layout x) (index x t) ≡ q
-  pub nth : tally (ownsAt x q) t ≡ j
+word-asks : Asks inWordLists
+word-asks = record { call = oneEntry; is = λ x q t. refl }
 
-pub at-place : (x : Section) (q j : ℕ) → j < length (places x q) → At x q j (getD (places x q) j 0)
-unfolding places ownsAt
-at-place x q j h =
-    let r = listed (ownsAt x q) (count x) 0 j h in
-    record {
-      below = omega (arith, r .below);
-      owner = of-owns (ownerOf (layout x)) q _ (r .passes);
-      nth = omega (arith, r .nth, tally-none (ownsAt x q));
-    }
+byte-asks : Asks inByteLists
+unfolding inWords wordsOf wordsIn valueOf
+byte-asks = record {
+  call = λ x q t. record { section = x; processor = pos q; place = pos t; quota = pos 3; bytes = 0 ∷ 0 ∷ 0 ∷ 0 ∷ [] };
+  is = λ x q t. refl;
+}
 
-module _ (x : Section) (ok : firstNo (ofSection x) ≡ 0) where
-  -- fills that reached the count got the addresses of all the processor's elements
-  full : (q : ℕ) (cs : List FillCall) → FollowsOn x q (firstPlace x q) cs → standing (firstPlace x q) (map fill cs) ≡ count x
-      → got (map fill cs) ≡ map (address x) (places x q)
-  unfolding walkOf firstPlace
-  full q cs fs e =
-      let n : ℕ = reported (map fill cs) in
-      let i = section-fills x q ok cs fs in
-      let d : drop n (places x q) ≡ [] = leads-done (leads-drop n (places-lead x q ok)) (sym (i .place) ∙ e) in
-      let t : take n (places x q) ≡ places x q =
-      sym (append-nil (take n (places x q))) ∙ ap (λ (z : List ℕ). take n (places x q) ++ z) (sym d) ∙ take-append-drop n (places x q) in
-      i .addresses ∙ ap (map (address x)) t
+pub demand3 : (x : Section) → firstNo (ofSection x) ≡ 0 → Demand3 inWordLists x
+demand3 = in-form inWordLists (λ c. refl) word-asks
 
-  leads-back : (q j t : ℕ) → At x q j t → backTo (ownerOf (layout x)) (layout x .size) q (address x t) ≡ index x t
-  unfolding address
-  leads-back q j t a =
-      ap (λ (o : ℕ). backTo (ownerOf (layout x)) (layout x .size) o (rank (ownerOf (layout x)) (index x t))) (sym (a .owner))
-      ∙ back-rank (ownerOf (layout x)) (layout x .size) (index x t) (index-lt x ok t (a .below))
-
-  module _ (runs : ℕ → List FillCall)
-      (all : (q : ℕ) → q < layout x .processors
-      → FollowsOn x q (firstPlace x q) (runs q) × (standing (firstPlace x q) (map fill (runs q)) ≡ count x)) where
-    all-of : (q : ℕ) → q < layout x .processors → got (map fill (runs q)) ≡ map (address x) (places x q)
-    all-of q h = full q (runs q) (all q h .0) (all q h .1)
-
-    -- entry j of what a processor got stands for the element at place j of its list
-    entry : (q j : ℕ) → q < layout x .processors → j < length (places x q) → StandsFor x runs (getD (places x q) j 0) q j
-    entry q j h l = record {
-      processor = h;
-      entry = rw (all-of q h, length-map) l;
-      element = rw (all-of q h, getD-map (address x) (places x q) j l) (leads-back q j _ (at-place x q j l));
-    }
-
-    -- and for no other
-    only : (t : ℕ) → t < count x → (q j : ℕ) → StandsFor x runs t q j
-        → (q ≡ ownerOf (layout x) (index x t)) × (j ≡ tally (ownsAt x (ownerOf (layout x) (index x t))) t)
-    only t h q j s =
-        let l : j < length (places x q) = rw (all-of q (s .processor), length-map) at (s .entry) in
-        let a : At x q j (getD (places x q) j 0) = at-place x q j l in
-        let e : getD (places x q) j 0 ≡ t =
-        index-inj x ok _ t (a .below) h (sym (entry q j (s .processor) l .element) ∙ s .element) in
-        let b : At x q j t = rw e at a in
-        (sym (b .owner), rw (b .owner) (sym (b .nth)))
-
-    once : (t : ℕ) → t < count x → InOneList x runs t
-    unfolding places ownsAt
-    once t h =
-        let q : ℕ = ownerOf (layout x) (index x t) in
-        let f = found (ownsAt x q) (count x) 0 t zero-le (omega arith) (owns-of (ownerOf (layout x)) q (index x t) refl) in
-        let s : StandsFor x runs t q (f .0) = rw (f .2) at (entry q (f .0) (owner-lt (layout x) (accepted x ok .sized .processors-pos) (index x t)) (f .1)) in
-        record {
-          processor = q;
-          entry = f .0;
-          stands = s;
-          only = λ r j u. (only t h r j u .0, only t h r j u .1 ∙ sym (only t h q (f .0) s .1));
-        }
-
-  -- demand 3
-  pub demand3 : Demand3 x
-  demand3 = record {
-    fills = λ q h. section-fills x q ok;
-    once = once;
-    no-gap = no-gap (ownerOf (layout x)) (layout x .size);
-    neighbours = neighbours-apart x ok;
-    cheap = cost-le x;
-  }
+pub demand3-of-bytes : (x : Section) → firstNo (ofSection x) ≡ 0 → Demand3 inByteLists x
+demand3-of-bytes = in-form inByteLists outcome-is byte-asks

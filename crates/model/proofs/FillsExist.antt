@@ -1,11 +1,11 @@
 -- The fills that demand 3 speaks of exist: one more fill from the place that stands is not refused, and so the fills of every
--- processor can be brought to the count.
+-- processor can be brought to the count. Over any form of call that can ask for one entry.
 use Prim.Native.Nat.{ℕ, zero, suc, _+_, _≤_, _<_, zero-le}
-use mathlib.Core.Path.{_≡_, refl, _∙_}
+use mathlib.Core.Path.{_≡_, refl, ap, _∙_}
 use mathlib.Core.Bool.{Bool, true, false, or-true}
-use mathlib.Core.List.{List, [], _∷_, _++_, map, map-append}
+use mathlib.Core.List.{List, [], _∷_, _++_, map-append}
 use native.Mathlib.Omega.{arith}
-use lib.Dec.{ltb, eqb, lit≤}
+use lib.Dec.{ltb, eqb}
 use lib.IntN.{pos}
 use lib.ListN.{length, getD, drop, drop-of-length-le}
 use lib.Seq.{drop-cons}
@@ -14,14 +14,14 @@ use Rattle.numbers.specs.Search.{headOr}
 use Rattle.model.specs.declared.Section.{Section}
 use Rattle.model.specs.Ownership.{nat, layoutOf, ownerOf}
 use Rattle.model.specs.Sections.{layout, count, ownsAt, places, firstPlace}
-use Rattle.model.specs.Filling.{Request, reported, standing}
+use Rattle.model.specs.Filling.{Request, Outcome, answer, reported, standing}
 use Rattle.model.specs.Questions.{firstNo, between, isPlace, ofSection, ofProcessor, ofPlace, ofQuota}
 use Rattle.model.specs.Calls.{FillCall, ofFill, walkOf, requestOf, fill}
-use Rattle.model.specs.Demand3.{hasEntry, roomy, FollowsOn}
+use Rattle.model.specs.Demand3.{hasEntry, roomy, Form, Agrees, FollowsOn, Fills, outcomes, placeAfter, Reached}
 use Rattle.model.proofs.QuestionLaws.{all-yes, asks-on, none-no, is-below}
 use Rattle.model.proofs.AddressLaws.{owns-of}
-use Rattle.model.proofs.SectionFills.{section-fills}
-use Rattle.model.proofs.Demand3Holds.{At, at-place}
+use Rattle.model.proofs.SectionFills.{Same, asked, section-fills}
+use Rattle.model.proofs.OnceLaws.{At, at-place}
 
 -- ---- the place that stands is one
 
@@ -39,67 +39,78 @@ place-left x q n = go (ltb n (length (places x q))) refl
     go false e =
         rw (drop-of-length-le (places x q) (ltb-false n _ e), le-leb 0 (count x) zero-le, eq-eqb (count x) (count x) refl)
 
--- ---- one more fill
+-- ---- a call of one entry
 
-abbrev pub callAt : Section → ℕ → ℕ → ℕ → List ℕ → FillCall
-callAt x q t quota xs = record { section = x; processor = pos q; place = pos t; quota = pos quota; list = xs }
+-- a fill of section x for processor q from place t, with the least quota and a list of one entry
+abbrev pub oneEntry : Section → ℕ → ℕ → FillCall
+oneEntry x q t = record { section = x; processor = pos q; place = pos t; quota = pos 3; list = 0 ∷ [] }
 
--- it follows those before it
-follows-more : (x : Section) (q t : ℕ) (cs : List FillCall) → FollowsOn x q t cs → (quota : ℕ) (xs : List ℕ)
-    → FollowsOn x q t (cs ++ (callAt x q (standing t (map fill cs)) quota xs ∷ []))
-unfolding FollowsOn standing
-follows-more x q t [] fs quota xs = ((λ e. (refl, refl, refl)), tt)
-follows-more x q t (c ∷ cs) fs quota xs = (fs .0, follows-more x q _ cs (fs .1) quota xs)
+-- the form has a call for each
+pub record Asks (f : Form) : Type 0 where
+  pub call : Section → ℕ → ℕ → f .Call
+  pub is : (x : Section) (q t : ℕ) → f .words (call x q t) ≡ oneEntry x q t
 
 roomy-more : (rs : List Request) (r : Request) → r .refusal ≡ 0 → roomy (rs ++ (r ∷ [])) ≡ roomy rs + hasEntry (r .list)
 unfolding roomy
 roomy-more [] r e = rw e (omega arith)
 roomy-more (s ∷ rs) r e = omega (arith, roomy-more rs r e)
 
-module _ (x : Section) (ok : firstNo (ofSection x) ≡ 0) (q : ℕ) (h : q < layout x .processors) where
-  -- the place that stands after these fills
-  abbrev after : List FillCall → ℕ
-  after cs = standing (firstPlace x q) (map fill cs)
+module _ (f : Form) (same : Same f) (x : Section) where
+  -- a call follows those before it, if it agrees
+  follows-more : (q t : ℕ) (cs : List (f .Call)) → FollowsOn f x q t cs → (c : f .Call)
+      → Agrees x q (standing t (outcomes f cs)) (f .words c) → FollowsOn f x q t (cs ++ (c ∷ []))
+  unfolding FollowsOn standing
+  follows-more q t [] fs c a = ((λ e. a), tt)
+  follows-more q t (d ∷ cs) fs c a = (fs .0, follows-more q _ cs (fs .1) c a)
 
-  pub next-accepted : (cs : List FillCall) → FollowsOn x q (firstPlace x q) cs
-      → (quota : ℕ) (xs : List ℕ) → 3 ≤ quota → quota ≤ 1000000 → firstNo (ofFill (callAt x q (after cs) quota xs)) ≡ 0
-  unfolding between layout layoutOf firstPlace walkOf
-  next-accepted cs fs quota xs lo hi =
-      let i = section-fills x q ok cs fs in
-      let last = ofProcessor (x .mapping) (pos q) ++ ofPlace x (pos q) (pos (after cs)) ++ ofQuota (pos quota) in
-      let place : isPlace x (pos q) (pos (after cs)) ≡ true = rw (i .place) (place-left x q (reported (map fill cs))) in
-      asks-on (ofSection x) last (all-yes (ofSection x) refl ok)
-      ∙ none-no last (is-below q (x .mapping .processors) h, (place, (rw (le-leb 3 quota lo, le-leb quota 1000000 hi), tt)))
+  module _ (ok : firstNo (ofSection x) ≡ 0) (q : ℕ) (h : q < layout x .processors) where
+    asks-none : (cs : List (f .Call)) → Fills f x q cs → (c : FillCall) → Agrees x q (placeAfter f x q cs) c
+        → between (pos 3) (pos 1000000) (c .quota) ≡ true → firstNo (ofFill c) ≡ 0
+    unfolding layout layoutOf firstPlace walkOf
+    asks-none cs fs c a quota =
+        let i = section-fills f same x q ok cs fs in
+        let t : ℕ = placeAfter f x q cs in
+        let last = ofProcessor (x .mapping) (pos q) ++ ofPlace x (pos q) (pos t) ++ ofQuota (c .quota) in
+        let place : isPlace x (pos q) (pos t) ≡ true = rw (i .place) (place-left x q (reported (outcomes f cs))) in
+        rw (a .section, a .processor, a .place)
+        (asks-on (ofSection x) last (all-yes (ofSection x) refl ok)
+        ∙ none-no last (is-below q (x .mapping .processors) h, (place, (quota, tt))))
 
-  -- ---- to the count
+    pub one-more : (cs : List (f .Call)) → Fills f x q cs → (c : f .Call) → Agrees x q (placeAfter f x q cs) (f .words c)
+        → between (pos 3) (pos 1000000) (f .words c .quota) ≡ true → f .outcome c .refusal ≡ 0
+    unfolding fill answer requestOf
+    one-more cs fs c a quota = ap (λ (o : Outcome). o .refusal) (same c) ∙ asks-none cs fs (f .words c) a quota
 
-  -- fills of one entry each, as many as are wanted
-  many : (n : ℕ) → (cs : List FillCall) × FollowsOn x q (firstPlace x q) cs × (n ≤ roomy (map requestOf cs))
-  unfolding FollowsOn requestOf
-  many zero = ([], tt, zero-le)
-  many (suc n) =
-      let m = many n in
-      let cs : List FillCall = m .0 in
-      let c : FillCall = callAt x q (after cs) 3 (0 ∷ []) in
-      let e : firstNo (ofFill c) ≡ 0 = next-accepted cs (m .1) 3 (0 ∷ []) (lit≤ tt) (lit≤ tt) in
-      let r : roomy (map requestOf (cs ++ (c ∷ []))) ≡ roomy (map requestOf cs) + 1 =
-      rw map-append (roomy-more (map requestOf cs) (requestOf c) e) in
-      (cs ++ (c ∷ []), follows-more x q _ cs (m .1) 3 (0 ∷ []), omega (arith, r, m .2))
+    -- ---- to the count
 
-  pub reach-count : (cs : List FillCall) × FollowsOn x q (firstPlace x q) cs × (after cs ≡ count x)
-  unfolding walkOf firstPlace
-  reach-count =
-      let m = many (length (places x q)) in
-      (m .0, m .1, section-fills x q ok (m .0) (m .1) .reaches (m .2))
+    -- fills of one entry each, as many as are wanted
+    many : Asks f → (n : ℕ) → (cs : List (f .Call)) × Fills f x q cs × (n ≤ roomy (asked f same x q cs))
+    unfolding FollowsOn requestOf between
+    many k zero = ([], tt, zero-le)
+    many k (suc n) =
+        let m = many k n in
+        let cs : List (f .Call) = m .0 in
+        let t : ℕ = placeAfter f x q cs in
+        let c : f .Call = k .call x q t in
+        let agrees : Agrees x q t (f .words c) = rw (k .is x q t) (record { section = refl; processor = refl; place = refl }) in
+        let e : firstNo (ofFill (f .words c)) ≡ 0 = asks-none cs (m .1) (f .words c) agrees (rw (k .is x q t)) in
+        let r : roomy (asked f same x q (cs ++ (c ∷ []))) ≡ roomy (asked f same x q cs) + hasEntry (f .words c .list) =
+        rw map-append (roomy-more (asked f same x q cs) (requestOf (f .words c)) e) in
+        (cs ++ (c ∷ []), follows-more q _ cs (m .1) c agrees, omega (arith, r, m .2, ap (λ (d : FillCall). hasEntry (d .list)) (k .is x q t)))
 
--- fills of every processor that reach the count
-module _ (x : Section) (ok : firstNo (ofSection x) ≡ 0) where
-  abbrev Reached : ℕ → List FillCall → Type 0
-  Reached q cs = FollowsOn x q (firstPlace x q) cs × (standing (firstPlace x q) (map fill cs) ≡ count x)
+    reach-count : Asks f → (cs : List (f .Call)) × Fills f x q cs × (placeAfter f x q cs ≡ count x)
+    unfolding walkOf firstPlace
+    reach-count k =
+        let m = many k (length (places x q)) in
+        (m .0, m .1, section-fills f same x q ok (m .0) (m .1) .reaches (m .2))
 
-  run : (q : ℕ) (b : Bool) → ltb q (layout x .processors) ≡ b → (cs : List FillCall) × (q < layout x .processors → Reached q cs)
-  run q true e = let r = reach-count x ok q (ltb-true q _ e) in (r .0, λ h. (r .1, r .2))
-  run q false e = ([], λ h. absurd (omega (arith, ltb-false q _ e)))
+  -- ---- every processor's fills
 
-  pub runs-exist : (runs : ℕ → List FillCall) × ((q : ℕ) → q < layout x .processors → Reached q (runs q))
-  runs-exist = ((λ q. run q (ltb q (layout x .processors)) refl .0), (λ q. run q (ltb q (layout x .processors)) refl .1))
+  module _ (ok : firstNo (ofSection x) ≡ 0) (k : Asks f) where
+    run : (q : ℕ) (b : Bool) → ltb q (layout x .processors) ≡ b
+        → (cs : List (f .Call)) × (q < layout x .processors → Fills f x q cs × (placeAfter f x q cs ≡ count x))
+    run q true e = let r = reach-count ok q (ltb-true q _ e) k in (r .0, λ h. (r .1, r .2))
+    run q false e = ([], λ h. absurd (omega (arith, ltb-false q _ e)))
+
+    pub runs-exist : (runs : ℕ → List (f .Call)) × Reached f x runs
+    runs-exist = ((λ q. run q (ltb q (layout x .processors)) refl .0), (λ q. run q (ltb q (layout x .processors)) refl .1))

@@ -18,17 +18,24 @@ pub mod StepEnds
 pub mod StepLaws
 pub mod WalkLaws
 pub mod WalkTheorem
+pub mod StepSizes
 -- fills one after another, and demand 3
+pub mod AnsweredLaws
+pub mod FillCalls
 pub mod Fronts
 pub mod InTurnLaws
 pub mod SectionFills
 pub mod NeighbourLaws
-pub mod Demand3Holds
+pub mod OnceLaws
 pub mod FillsExist
 pub mod FillLoopLaws
--- and into bytes
 pub mod ByteStores
 pub mod ByteFillsHold
 pub mod FillBounds
+pub mod Demand3Holds
+-- every call
+pub mod Demand1Holds
 -- transfers
 pub mod TransferLaws
+-- all of it
+pub mod PromisesHold

@@ -19,6 +19,7 @@ use Rattle.model.specs.Sized.{Sized}
 use Rattle.model.specs.Questions.{
   Question,
   firstNo,
+  AllYes,
   between,
   isBelow,
   most,
@@ -33,10 +34,6 @@ use Rattle.model.specs.Questions.{
 }
 
 -- ---- lists of questions
-
-abbrev pub AllYes : List Question → Type 0
-AllYes [] = Unit {0}
-AllYes (q ∷ qs) = (q .holds ≡ true) × AllYes qs
 
 -- no question has the number 0, which stands for no refusal
 abbrev pub numbered : List Question → Bool

@@ -21,9 +21,9 @@ use Rattle.model.specs.Steps.{
 }
 use Rattle.model.specs.Filling.{fillBy, answer, got, paid, standing}
 use Rattle.model.specs.Questions.{firstNo, between, cellsFit, isIndex, inRange, endsFit, isPlace}
-use Rattle.model.specs.Calls.{walkOf, requestOf, fill}
+use Rattle.model.specs.Calls.{walkOf, requestOf, fill, sectionSteps}
 use Rattle.model.specs.Starred.{every, table}
 
 pub starred : T (every table)
-unfolding table tally passing headOr sum gcdIn gcd owns rank nat layoutOf cellOf cellOwner courseCells columnOf ownerOf countOf elementAt layout count index cell address ownsAt places firstPlace processorIndex returnIndex processorStep returnStep oneStep stepsBy spread stepsOf upward going cost nextBy nextPlace fillBy answer got paid standing firstNo between cellsFit isIndex inRange endsFit isPlace walkOf requestOf fill
+unfolding table tally passing headOr sum gcdIn gcd owns rank nat layoutOf cellOf cellOwner courseCells columnOf ownerOf countOf elementAt layout count index cell address ownsAt places firstPlace processorIndex returnIndex processorStep returnStep oneStep stepsBy spread stepsOf upward going cost nextBy nextPlace fillBy answer got paid standing firstNo between cellsFit isIndex inRange endsFit isPlace walkOf requestOf fill sectionSteps
 starred = tt

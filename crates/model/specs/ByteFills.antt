@@ -1,7 +1,7 @@
 -- Fills into a list of bytes, "4 to an address, lowest byte first; up to 3 bytes left over are no entry and stay".
 -- Definitions only.
 use Prim.Native.Nat.{ℕ, suc, _*_}
-use mathlib.Core.List.{List, [], _∷_, map}
+use mathlib.Core.List.{List, [], _∷_}
 use lib.IntN.{ℤ}
 use lib.ListN.{take}
 use Rattle.numbers.specs.Words.{wordsOf, storeAt}
@@ -49,7 +49,3 @@ outcomeOf c =
         list = wordsOf 4 (bytesAfter c);
       };
     }
-
--- the fills that byte fills stand for
-unfoldable pub callsOf : List ByteFill → List FillCall
-callsOf cs = map inWords cs

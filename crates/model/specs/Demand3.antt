@@ -1,9 +1,9 @@
 -- Demand 3 as one statement about a whole list of fills of one processor, a field for each sentence ("Fills one after
--- another"). What is about a list of fills is over any walk.
+-- another"). What is about a list of fills is over any walk; what is about a section is over any form of call.
 use Prim.Native.Nat.{ℕ, suc, _+_, _-_, _≤_, _<_}
 use mathlib.Core.Path.{_≡_}
 use mathlib.Core.Logic.{_⊎_}
-use mathlib.Core.Bool.{cond}
+use mathlib.Core.Bool.{cond, true}
 use mathlib.Core.List.{List, [], _∷_, map}
 use lib.Dec.{eqb}
 use lib.IntN.{pos}
@@ -16,7 +16,9 @@ use Rattle.model.specs.Ownership.{ownerOf, backTo}
 use Rattle.model.specs.Sections.{layout, count, index, cell, places, firstPlace}
 use Rattle.model.specs.Steps.{cost, stepsOf}
 use Rattle.model.specs.Filling.{Walk, Request, Outcome, answer, got, reported, paid, standing, allowed}
+use Rattle.model.specs.Questions.{between}
 use Rattle.model.specs.Calls.{FillCall, walkOf, requestOf, fill}
+use Rattle.model.specs.ByteFills.{ByteFill, inWords, outcomeOf}
 use Rattle.model.specs.Demand2.{NoGap}
 
 -- ---- any walk
@@ -62,27 +64,64 @@ pub record InTurn (w : Walk) (ps : List ℕ) (rs : List Request) (os : List Outc
   -- enough fills reach the count
   pub reaches : length ps ≤ roomy rs → standing (headOr (w .count) ps) os ≡ w .count
 
+-- ---- a form of call
+
+-- A call lends words, or bytes. It stands for a fill of words, and has an outcome, whose list is read as words.
+pub record Form : Type 1 where
+  pub Call : Type 0
+  pub words : Call → FillCall
+  pub outcome : Call → Outcome
+
+abbrev pub inWordLists : Form
+inWordLists = record { Call = FillCall; words = λ c. c; outcome = fill }
+
+-- the form that C and Fortran call
+abbrev pub inByteLists : Form
+inByteLists = record { Call = ByteFill; words = inWords; outcome = outcomeOf }
+
 -- ---- a section
 
--- an accepted fill agrees with the section and the processor, and starts at the place that stands
-unfoldable pub FollowsOn : Section → ℕ → ℕ → List FillCall → Type 0
-FollowsOn x q t [] = Unit {0}
-FollowsOn x q t (c ∷ cs) =
-    (fill c .refusal ≡ 0 → (c .section ≡ x) × (c .processor ≡ pos q) × (c .place ≡ pos t))
-    × FollowsOn x q (standing t (fill c ∷ [])) cs
+-- a fill of section x for processor q from place t: "they agree in every input but place, quota and list of addresses"
+pub record Agrees (x : Section) (q t : ℕ) (c : FillCall) : Type 0 where
+  pub section : c .section ≡ x
+  pub processor : c .processor ≡ pos q
+  pub place : c .place ≡ pos t
 
--- entry j of what processor q got "stands for the element that its processor and address lead back to", that at position t
-pub record StandsFor (x : Section) (runs : ℕ → List FillCall) (t q j : ℕ) : Type 0 where
+-- an accepted fill agrees with the section and the processor, and starts at the place that stands; a refused one may be at
+-- fault in any input
+unfoldable pub FollowsOn : (f : Form) → Section → ℕ → ℕ → List (f .Call) → Type 0
+FollowsOn f x q t [] = Unit {0}
+FollowsOn f x q t (c ∷ cs) =
+    (f .outcome c .refusal ≡ 0 → Agrees x q t (f .words c)) × FollowsOn f x q (standing t (f .outcome c ∷ [])) cs
+
+-- processor q's fills, from its first place on
+abbrev pub Fills : (f : Form) → Section → ℕ → List (f .Call) → Type 0
+Fills f x q cs = FollowsOn f x q (firstPlace x q) cs
+
+abbrev pub outcomes : (f : Form) → List (f .Call) → List Outcome
+outcomes f cs = map (f .outcome) cs
+
+-- the place that stands after them
+abbrev pub placeAfter : (f : Form) → Section → ℕ → List (f .Call) → ℕ
+placeAfter f x q cs = standing (firstPlace x q) (outcomes f cs)
+
+-- each processor's fills reached the count
+abbrev pub Reached : (f : Form) → Section → (ℕ → List (f .Call)) → Type 0
+Reached f x runs =
+    (q : ℕ) → q < layout x .processors → Fills f x q (runs q) × (placeAfter f x q (runs q) ≡ count x)
+
+-- entry j of processor q's list "stands for the element that its processor and address lead back to", that at position t
+pub record StandsFor (x : Section) (lists : ℕ → List ℕ) (t q j : ℕ) : Type 0 where
   pub processor : q < layout x .processors
-  pub entry : j < length (got (map fill (runs q)))
-  pub element : backTo (ownerOf (layout x)) (layout x .size) q (getD (got (map fill (runs q))) j 0) ≡ index x t
+  pub entry : j < length (lists q)
+  pub element : backTo (ownerOf (layout x)) (layout x .size) q (getD (lists q) j 0) ≡ index x t
 
 -- the element at position t stands in exactly one list, exactly once
-pub record InOneList (x : Section) (runs : ℕ → List FillCall) (t : ℕ) : Type 0 where
+pub record InOneList (x : Section) (lists : ℕ → List ℕ) (t : ℕ) : Type 0 where
   pub processor : ℕ
   pub entry : ℕ
-  pub stands : StandsFor x runs t processor entry
-  pub only : (q j : ℕ) → StandsFor x runs t q j → (q ≡ processor) × (j ≡ entry)
+  pub stands : StandsFor x lists t processor entry
+  pub only : (q j : ℕ) → StandsFor x lists t q j → (q ≡ processor) × (j ≡ entry)
 
 -- "two elements lie apart by the difference of their cells' numbers"
 abbrev pub apart : ℕ → ℕ → ℕ
@@ -95,17 +134,21 @@ IsStep (OneStep m) d = d ≡ m .cells
 IsStep (TwoSteps r w) d = (d ≡ r .cells) ⊎ ((d ≡ w .cells) ⊎ (d ≡ r .cells + w .cells))
 
 -- Demand 3, of a section that every question about it passed
-pub record Demand3 (x : Section) : Type 0 where
+pub record Demand3 (f : Form) (x : Section) : Type 0 where
   -- every list of fills of a processor, refused ones among them, from its first place
   pub fills :
-      (q : ℕ) → q < layout x .processors → (cs : List FillCall) → FollowsOn x q (firstPlace x q) cs
-      → InTurn (walkOf x) (places x q) (map requestOf cs) (map fill cs)
+      (q : ℕ) → q < layout x .processors → (cs : List (f .Call)) → Fills f x q cs
+      → InTurn (walkOf x) (places x q) (map (λ c. requestOf (f .words c)) cs) (outcomes f cs)
   -- where each processor's fills reached the count, each element of the section stands in exactly one list, once
   pub once :
-      (runs : ℕ → List FillCall)
-      → ((q : ℕ) → q < layout x .processors
-      → FollowsOn x q (firstPlace x q) (runs q) × (standing (firstPlace x q) (map fill (runs q)) ≡ count x))
-      → (t : ℕ) → t < count x → InOneList x runs t
+      (runs : ℕ → List (f .Call)) → Reached f x runs → (t : ℕ) → t < count x
+      → InOneList x (λ q. got (outcomes f (runs q))) t
+  -- such fills exist: after any fills one more from the place that stands is accepted, and all can be brought to the count
+  pub goes-on :
+      (q : ℕ) → q < layout x .processors → (cs : List (f .Call)) → Fills f x q cs
+      → (c : f .Call) → Agrees x q (placeAfter f x q cs) (f .words c) → between (pos 3) (pos 1000000) (f .words c .quota) ≡ true
+      → f .outcome c .refusal ≡ 0
+  pub reaches : (runs : ℕ → List (f .Call)) × Reached f x runs
   pub no-gap : (q : ℕ) → NoGap (ownerOf (layout x)) (layout x .size) q
   -- neighbours in a processor's list lie a step apart
   pub neighbours :

@@ -6,9 +6,11 @@ pub mod Filling
 pub mod Questions
 pub mod Sized
 pub mod Calls
-pub mod Demand2
-pub mod Demand3
 pub mod ByteFills
 pub mod Transfers
 pub mod Sheets
+pub mod Demand1
+pub mod Demand2
+pub mod Demand3
 pub mod Starred
+pub mod Promises

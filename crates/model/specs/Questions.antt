@@ -1,6 +1,7 @@
 -- Document 01, "Questions, in order": 1 to 11. Definitions only.
 use Prim.Native.Nat.{ℕ, _-_}
-use mathlib.Core.Bool.{Bool, not, cond, _&&_, _||_}
+use mathlib.Core.Path.{_≡_}
+use mathlib.Core.Bool.{Bool, true, not, cond, _&&_, _||_}
 use mathlib.Core.List.{List, [], _∷_, _++_}
 use lib.Dec.{ltb, eqb}
 use lib.IntN.{ℤ, pos, negsuc, natAbs, _+ℤ_, _-ℤ_, _*ℤ_}
@@ -22,6 +23,11 @@ ask n b = record { number = n; holds = b }
 unfoldable pub firstNo : List Question → ℕ
 firstNo [] = 0
 firstNo (q ∷ qs) = let r = firstNo qs in cond (q .holds) r (q .number)
+
+-- every question is answered yes
+abbrev pub AllYes : List Question → Type 0
+AllYes [] = Unit {0}
+AllYes (q ∷ qs) = (q .holds ≡ true) × AllYes qs
 
 unfoldable pub between : ℤ → ℤ → ℤ → Bool
 between low high z = leZ low z && leZ z high

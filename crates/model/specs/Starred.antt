@@ -1,9 +1,10 @@
 -- The starred cases of document 01, and cases of our own, as one table. Definitions only; proofs/StarredHold.antt computes it.
 use Prim.Native.Nat.{ℕ}
 use mathlib.Core.Bool.{Bool, true, false, _&&_}
-use mathlib.Core.List.{List, [], _∷_, map}
+use mathlib.Core.List.{List, [], _∷_, _++_, map}
 use lib.Dec.{eqb}
 use lib.IntN.{ℤ, pos, negsuc}
+use lib.Signed.{leZ}
 use lib.ListN.{replicate}
 use Rattle.numbers.specs.Search.{passing}
 use Rattle.model.specs.declared.Mapping.{Mapping}
@@ -15,7 +16,7 @@ use Rattle.model.specs.Sections.{count, index, firstPlace}
 use Rattle.model.specs.Steps.{stepsOf}
 use Rattle.model.specs.Filling.{got, paid, standing}
 use Rattle.model.specs.Questions.{firstNo, ofSection}
-use Rattle.model.specs.Calls.{FillCall, fill}
+use Rattle.model.specs.Calls.{FillCall, fill, StepReport, SectionStepsAnswer, sectionSteps}
 
 -- ---- equality, as a test
 
@@ -24,6 +25,12 @@ sameList [] [] = true
 sameList [] (y ∷ ys) = false
 sameList (x ∷ xs) [] = false
 sameList (x ∷ xs) (y ∷ ys) = eqb x y && sameList xs ys
+
+abbrev sameNumbers : List ℤ → List ℤ → Bool
+sameNumbers [] [] = true
+sameNumbers [] (y ∷ ys) = false
+sameNumbers (x ∷ xs) [] = false
+sameNumbers (x ∷ xs) (y ∷ ys) = leZ x y && leZ y x && sameNumbers xs ys
 
 abbrev sameStep : Step → Step → Bool
 sameStep a b = eqb (a .cells) (b .cells) && eqb (a .courses) (b .courses) && eqb (a .column) (b .column)
@@ -46,9 +53,18 @@ pub data Row : Type 0 where
   elements : Section → ℕ → List ℕ → Row
   -- a section has these steps
   steps : Section → Steps → Row
+  -- the call for a section's steps answers these numbers: its refusal, the count, how many steps, and of each its cells, its
+  -- courses and its column move
+  report : Section → List ℤ → Row
   -- from a processor's first place fills with these quotas, into lists of 8, give these entries, tries and next place;
   -- a quota of 2 is refused
   fills : Section → ℕ → ℕ → List ℕ → List ℕ → ℕ → ℕ → Row
+
+abbrev stepNumbers : StepReport → List ℤ
+stepNumbers r = pos (r .cells) ∷ pos (r .courses) ∷ r .column ∷ []
+
+abbrev reportNumbers : SectionStepsAnswer → List ℤ
+reportNumbers a = pos (a .refusal) ∷ pos (a .count) ∷ pos (a .steps) ∷ stepNumbers (a .first) ++ stepNumbers (a .second)
 
 -- the fills of processor q with these quotas, each from the place that stands
 abbrev runFrom : Section → ℕ → ℕ → List ℕ → List FillCall
@@ -60,6 +76,7 @@ runFrom x q t (z ∷ zs) =
 abbrev pub holds : Row → Bool
 holds (elements x e xs) = eqb (firstNo (ofSection x)) e && sameList (map (index x) (passing (λ t. true) 0 (count x))) xs
 holds (steps x s) = sameSteps (stepsOf x) s
+holds (report x zs) = sameNumbers (reportNumbers (sectionSteps x)) zs
 holds (fills x q t quotas xs tries next) =
     let os = map fill (runFrom x q t quotas) in
     eqb (firstPlace x q) t && sameList (got os) xs && eqb (paid os) tries && eqb (standing t os) next
@@ -99,6 +116,10 @@ offset = on (mapped 96 3 4 1 5 91) (pos 0) (pos 90) (pos 7)
 abbrev ofSize : ℕ → ℤ → ℤ → ℤ → Section
 ofSize n l h s = on (mapped 12 3 2 1 0 n) l h s
 
+-- 3:3:1, which is element 3 alone
+abbrev lone : Section
+lone = ofSize 8 (pos 3) (pos 3) (pos 1)
+
 abbrev step : ℕ → ℕ → ℕ → Step
 step x c y = record { cells = x; courses = c; column = y }
 
@@ -108,6 +129,7 @@ table =
     ∷ fills forward 1 1 (100 ∷ []) (3 ∷ 8 ∷ 14 ∷ 25 ∷ 31 ∷ []) 9 14
     ∷ fills forward 2 3 (100 ∷ []) (5 ∷ 11 ∷ 16 ∷ 22 ∷ []) 7 14
     ∷ steps forward (TwoSteps (step 14 1 2) (step 21 2 3))
+    ∷ report forward (pos 0 ∷ pos 14 ∷ pos 2 ∷ pos 14 ∷ pos 1 ∷ pos 2 ∷ pos 21 ∷ pos 2 ∷ negsuc 2 ∷ [])
     ∷ fills forward 0 0 (4 ∷ []) (0 ∷ 6 ∷ []) 4 7
     ∷ fills backward 1 0 (100 ∷ []) (31 ∷ 25 ∷ 14 ∷ 8 ∷ 3 ∷ []) 8 14
     ∷ fills aligned 0 0 (100 ∷ []) (0 ∷ 2 ∷ 7 ∷ 9 ∷ []) 7 16
@@ -115,6 +137,7 @@ table =
     ∷ fills aligned 2 1 (100 ∷ []) (0 ∷ 2 ∷ 5 ∷ 7 ∷ []) 7 16
     ∷ fills aligned 3 5 (100 ∷ []) (3 ∷ 5 ∷ 8 ∷ 10 ∷ []) 7 16
     ∷ steps single (OneStep (step 6 1 0))
+    ∷ report single (pos 0 ∷ pos 2 ∷ pos 1 ∷ pos 6 ∷ pos 1 ∷ pos 0 ∷ pos 0 ∷ pos 0 ∷ pos 0 ∷ [])
     ∷ fills single 0 0 (100 ∷ []) (0 ∷ 2 ∷ []) 2 2
     ∷ fills single 1 2 (100 ∷ []) [] 0 2
     ∷ fills single 2 2 (100 ∷ []) [] 0 2
@@ -132,6 +155,10 @@ table =
     ∷ fills offset 0 1 (100 ∷ []) (0 ∷ 6 ∷ 17 ∷ 23 ∷ []) 7 13
     ∷ fills offset 1 0 (100 ∷ []) (0 ∷ 6 ∷ 11 ∷ 17 ∷ 28 ∷ []) 8 13
     ∷ fills offset 2 4 (100 ∷ []) (9 ∷ 15 ∷ 20 ∷ 26 ∷ []) 7 13
-    -- one element has no steps
-    ∷ steps (ofSize 8 (pos 3) (pos 3) (pos 1)) NoStep
+    -- one element has no steps, and costs 1 try
+    ∷ steps lone NoStep
+    ∷ report lone (pos 0 ∷ pos 1 ∷ pos 0 ∷ pos 0 ∷ pos 0 ∷ pos 0 ∷ pos 0 ∷ pos 0 ∷ pos 0 ∷ [])
+    ∷ fills lone 1 0 (100 ∷ []) (1 ∷ []) 1 1
+    -- a refused section has no count and no steps
+    ∷ report (ofSize 8 (pos 0) (pos 14) (pos 7)) (pos 7 ∷ pos 0 ∷ pos 0 ∷ pos 0 ∷ pos 0 ∷ pos 0 ∷ pos 0 ∷ pos 0 ∷ pos 0 ∷ [])
     ∷ []

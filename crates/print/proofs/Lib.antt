@@ -6,3 +6,4 @@ pub mod WentLaws
 pub mod PartLaws
 pub mod PieceLaws
 pub mod PrintsLaws
+pub mod GivingLaws

@@ -3,3 +3,4 @@ pub mod Texts
 pub mod Ahead
 pub mod Turns
 pub mod Pieces
+pub mod Giving

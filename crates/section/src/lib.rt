@@ -13,7 +13,7 @@ use report::SectionSteps;
 use report::report_of;
 use steps::steps_of;
 
-pub mod count;
+mod count;
 pub mod elements;
 pub mod going;
 pub mod place;

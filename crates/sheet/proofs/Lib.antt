@@ -17,3 +17,4 @@ pub mod LengthLaws
 pub mod NameLaws
 pub mod SectionLaws
 pub mod UniqueLaws
+pub mod PromisesHold

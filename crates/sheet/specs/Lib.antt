@@ -5,3 +5,4 @@ pub mod Parts
 pub mod Contents
 pub mod Answers
 pub mod Cases
+pub mod Promises

@@ -11,7 +11,7 @@ use Rattle.model.specs.declared.Section.{Section}
 use Rattle.model.specs.Sections.{count, address}
 use Rattle.model.specs.Questions.{firstNo, ofSection}
 use Rattle.model.specs.Transfers.{isEntry, pairPlaces, Lists, Kept, StandsOnce, PairListed}
-use Rattle.model.proofs.Demand3Holds.{getD-map}
+use Rattle.model.proofs.OnceLaws.{getD-map}
 use Rattle.section.specs.Strides.{stridedOf}
 use Rattle.section.proofs.StridedSections.{owned-at, address-at}
 use Rattle.transfer.specs.Pairs.{shareOf, places}

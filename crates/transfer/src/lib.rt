@@ -11,8 +11,8 @@ use questions::Paired;
 use questions::ask_pair;
 
 pub mod listing;
-pub mod questions;
-pub mod walk;
+mod questions;
+mod walk;
 
 // The entries of the pair: section positions, sender's addresses and receiver's addresses in
 // three lists. The order of the entries is left open.

@@ -41,7 +41,7 @@ fn write_addresses(x: Strided, positions: &[u32], n: usize, list: &mut [u32])
 }
 
 // Question 13, and the lists. Nothing is written before the entries are counted.
-pub fn list_pair(
+pub(crate) fn list_pair(
     p: Pair,
     positions: &mut [u32],
     sent: &mut [u32],

@@ -14,7 +14,7 @@ ghost use Rattle.walk.specs.Bursts.{Starts, Bursts, Bursted, Short, Befo
 ghost use Rattle.walk.specs.Driving.{FillsBytes};
 
 // An address stored as entry n.
-pub fn put_entry(list: &mut [u8], n: usize, x: u32)
+pub(crate) fn put_entry(list: &mut [u8], n: usize, x: u32)
     requires { ⌜ n < length (now list) / 4 ⌝ }
     ensures { λ r. ⌜ now (list .exit) ≡ storeEntry (now (list .entry)) n x ⌝ }
 {
@@ -79,7 +79,9 @@ fn next_turns(m: Moves, count: u64, start: State, list: &mut [u8], from: usize, 
     burst(m, count, start, list, from, turns)
 }
 
-// The fill of a list from a state, in bursts.
+// The fill of a list from a state, in bursts: all that is reported and every byte, along any walk
+// that the moves drive. Of moves that drive none nothing is said: a caller has the walk that it
+// fills along.
 pub fn fill_bytes(m: Moves, count: u64, quota: u64, start: State, list: &mut [u8]) -> Report
     requires { ⌜ Starts m count quota start ⌝ }
     ensures { λ r. ⌜ FillsBytes m count quota start (now (list .entry)) (now (list .exit)) r ⌝ }

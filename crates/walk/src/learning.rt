@@ -51,7 +51,7 @@ fn address_at(e: Elements, count: u64, t: Position) -> Address
 }
 
 // The period of the columns that move alike.
-pub fn period_of(e: Elements) -> u64
+pub(crate) fn period_of(e: Elements) -> u64
     ensures { λ r. ⌜ r ≡ periodOf e ⌝ }
 {
     let l = e.layout;
@@ -62,7 +62,7 @@ pub fn period_of(e: Elements) -> u64
 }
 
 // What is added to come from address a to that of place t. Past the count nothing is.
-pub fn find_move(e: Elements, count: u64, t: Position, a: Address) -> u64
+pub(crate) fn find_move(e: Elements, count: u64, t: Position, a: Address) -> u64
     requires { ⌜ Placed e count × (a .0 < 4294967296) ⌝ }
     ensures { λ r. ⌜ (r ≡ moveTo e count (t .0) (a .0)) × (r < 4294967296) ⌝ }
 {
@@ -73,7 +73,7 @@ pub fn find_move(e: Elements, count: u64, t: Position, a: Address) -> u64
 }
 
 // The state s with the address that lies so much after a.
-pub fn moved_on(s: State, a: Address, add: u64) -> State
+pub(crate) fn moved_on(s: State, a: Address, add: u64) -> State
     requires { ⌜ (a .0 < 4294967296) × (add < 4294967296) ⌝ }
     ensures { λ r. ⌜ r ≡ moved s (a .0) add ⌝ }
 {

@@ -2,9 +2,9 @@
 // of sections: a turn only adds and compares, by moves that are constant (bytes.rt) or that are
 // learnt when they are first made (columns.rt and classes.rt; tables.rt chooses).
 pub mod bytes;
-pub mod classes;
-pub mod columns;
+mod classes;
+mod columns;
 pub mod learning;
 pub mod moves;
-pub mod spread;
+mod spread;
 pub mod tables;

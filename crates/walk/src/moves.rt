@@ -48,11 +48,11 @@ pub struct Report {
 pub const ADDRESSES: u64 = 4294967296;
 
 // A burst of fewer turns is short.
-pub const SHORT: usize = 16;
+pub(crate) const SHORT: usize = 16;
 
 // The state after the first step that fits: the processor step, the return step, or both.
 // The place may pass the count.
-pub fn step(m: Moves, s: State) -> State
+pub(crate) fn step(m: Moves, s: State) -> State
     requires { ⌜ Small m × Sound m s × Roomy s ⌝ }
     ensures { λ r. ⌜ r ≡ stepped m s ⌝ }
 {
@@ -85,7 +85,7 @@ pub fn step(m: Moves, s: State) -> State
 }
 
 // A place that passed the count is the count.
-pub fn stop_at(count: u64, s: State) -> State
+pub(crate) fn stop_at(count: u64, s: State) -> State
     ensures { λ r. ⌜ r ≡ stopAt count s ⌝ }
 {
     if s.place.0 < count {
@@ -107,7 +107,7 @@ fn least(a: u64, b: u64) -> u64
 }
 
 // No turn is made where the place is the count or too few tries are left.
-pub fn has_ended(count: u64, quota: u64, s: State) -> bool
+pub(crate) fn has_ended(count: u64, quota: u64, s: State) -> bool
     requires { ⌜ s .paid ≤ quota ⌝ }
     ensures { λ r. ⌜ r ≡ hasEnded count quota s ⌝ }
 {
@@ -115,7 +115,7 @@ pub fn has_ended(count: u64, quota: u64, s: State) -> bool
 }
 
 // What a fill that came to state s with so many entries returns.
-pub fn report_of(entries: usize, s: State) -> Report
+pub(crate) fn report_of(entries: usize, s: State) -> Report
     ensures { λ r. ⌜ r ≡ record { entries = entries; tries = s .paid; place = s .place } ⌝ }
 {
     let place = s.place;
@@ -127,7 +127,7 @@ pub fn report_of(entries: usize, s: State) -> Report
 }
 
 // How many turns, of at most `most`, are sure to write: none but the last can reach the count.
-pub fn sure_turns(m: Moves, count: u64, s: State, most: usize) -> usize
+pub(crate) fn sure_turns(m: Moves, count: u64, s: State, most: usize) -> usize
     requires { ⌜ Small m × (s .place .0 < count) × (0 < most) ⌝ }
     ensures { λ r. ⌜ (0 < r) × (r ≤ most) × Short m count s r ⌝ }
 {
@@ -136,7 +136,7 @@ pub fn sure_turns(m: Moves, count: u64, s: State, most: usize) -> usize
 }
 
 // How many turns, of at most `room`, have their tries, whatever each turn costs.
-pub fn paid_turns(quota: u64, paid: u64, room: usize) -> usize
+pub(crate) fn paid_turns(quota: u64, paid: u64, room: usize) -> usize
     requires { ⌜ (paid + 3 ≤ quota) × (0 < room) ⌝ }
     ensures { λ r. ⌜ (0 < r) × (r ≤ room) × (paid + 3 * r ≤ quota) ⌝ }
 {

@@ -42,9 +42,9 @@ fn with_many_classes(f: Task, start: State, list: &mut [u8]) -> Report
     fill_by_classes(f, start, &mut classes, list)
 }
 
-// The fill by moves that are learnt. What comes after the last entry is not asked for, so one
-// entry asks for no move at all. A short list does not pay for a long table, nor a list much
-// shorter than the block for one by columns.
+// The fill by moves that are learnt, of which as much is said as of one by constant moves. What
+// comes after the last entry is not asked for, so one entry asks for no move at all. A short list
+// does not pay for a long table, nor a list much shorter than the block for one by columns.
 pub fn fill_bytes_learning(f: Task, start: State, list: &mut [u8]) -> Report
     requires { ⌜ Begins f start × Still (f .moves) ⌝ }
     ensures { λ r. ⌜ FillsBytesEven f start (now (list .entry)) (now (list .exit)) r ⌝ }

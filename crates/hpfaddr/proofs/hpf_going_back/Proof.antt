@@ -1,6 +1,6 @@
 -- `hpf_going_back` meets its contract: the numbers that `going_back` answers fit the fields.
-use Prim.Native.Nat.{_^_, _<_}
-use mathlib.Core.Path.{_≡_, sym, ap, subst, _∙_}
+use mathlib.Core.Path.{_≡_, sym, ap, _∙_}
+use native.Mathlib.Omega.{arith}
 use borrow.Author.Needs.{needs}
 use mir.Syntax.{w64}
 use mir.ValLaws.{toZ-ofZ}
@@ -8,6 +8,8 @@ use Rattle.model.specs.declared.Mapping.{Mapping}
 use Rattle.model.specs.Calls.{GoingBackAnswer, goingBack}
 use Rattle.model.proofs.AnswerLaws.{going-back-small}
 use Rattle.mapping.specs.Answers.{mappingOf, foundAs}
+use Rattle.hpfaddr.specs.Sizes.{FoundFits}
+use Rattle.hpfaddr.proofs.AnswerSizes.{with-size}
 use Rattle.hpfaddr.proofs.ParameterLaws.{mapping-read}
 use Rattle.hpfaddr.proofs.hpf_going_back.Statement.{statement}
 use Rattle.hpfaddr.proofs.hpf_going_back.Tie as tie
@@ -33,16 +35,12 @@ enum-known-i : tie.Need-enum-known-i
 enum-known-i c = search needs
 
 found : (c : tie.After-i) → let s : tie.Start = c .before .before .before .before in
-    record { refusal = 0; index = c .i .given .0 .0 .0 } ≡ goingBack (mapping s) (s .args .processor) (s .args .address)
-found c = sym (ap foundAs (c .i .given .1)) ∙ answer (c .before .before)
+    let a : GoingBackAnswer = record { refusal = 0; index = c .i .given .0 .0 .0 } in
+    (a ≡ goingBack (mapping s) (s .args .processor) (s .args .address)) × FoundFits a
+found c = with-size FoundFits (sym (ap foundAs (c .i .given .1)) ∙ answer (c .before .before)) (going-back-small _ _ _)
 
 cast-t14 : tie.Need-cast-t14
-cast-t14 c =
-    let o = found (c .before .before) in
-    record {
-      fits =
-          subst (λ (a : GoingBackAnswer). a .index < 2 ^ 32) (sym o) (going-back-small _ _ _ (ap (λ (a : GoingBackAnswer). a .refusal) (sym o)));
-    }
+cast-t14 c = record { fits = omega (arith, found (c .before .before) .1) }
 
 enum-known-e : tie.Need-enum-known-e
 enum-known-e c = search needs
@@ -51,7 +49,8 @@ returns : tie.Need-returns
 returns c = found (c .before .before)
 
 returns-2 : tie.Need-returns-2
-returns-2 c = sym (ap foundAs (c .before .e .given .1)) ∙ answer (c .before .before .before)
+returns-2 c =
+    with-size FoundFits (sym (ap foundAs (c .before .e .given .1)) ∙ answer (c .before .before .before)) (going-back-small _ _ _)
 
 pub hpf-going-back-spec : {M : Type 1} → statement M
 hpf-going-back-spec =

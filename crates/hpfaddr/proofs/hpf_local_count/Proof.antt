@@ -1,6 +1,6 @@
 -- `hpf_local_count` meets its contract: the numbers that `local_count` answers fit the fields.
-use Prim.Native.Nat.{_^_, _<_}
-use mathlib.Core.Path.{_≡_, sym, ap, subst, _∙_}
+use mathlib.Core.Path.{_≡_, sym, ap, _∙_}
+use native.Mathlib.Omega.{arith}
 use borrow.Author.Needs.{needs}
 use mir.Syntax.{w64}
 use mir.ValLaws.{toZ-ofZ}
@@ -8,6 +8,8 @@ use Rattle.model.specs.declared.Mapping.{Mapping}
 use Rattle.model.specs.Calls.{LocalCountAnswer, localCount}
 use Rattle.model.proofs.AnswerLaws.{local-count-small}
 use Rattle.mapping.specs.Answers.{mappingOf, countedAs}
+use Rattle.hpfaddr.specs.Sizes.{CountedFits}
+use Rattle.hpfaddr.proofs.AnswerSizes.{with-size}
 use Rattle.hpfaddr.proofs.ParameterLaws.{mapping-read}
 use Rattle.hpfaddr.proofs.hpf_local_count.Statement.{statement}
 use Rattle.hpfaddr.proofs.hpf_local_count.Tie as tie
@@ -33,12 +35,12 @@ enum-known-n : tie.Need-enum-known-n
 enum-known-n c = search needs
 
 counted : (c : tie.After-n) → let s : tie.Start = c .before .before .before .before in
-    record { refusal = 0; elements = c .n .given .0 .0 } ≡ localCount (mapping s) (s .args .processor)
-counted c = sym (ap countedAs (c .n .given .1)) ∙ answer (c .before .before)
+    let a : LocalCountAnswer = record { refusal = 0; elements = c .n .given .0 .0 } in
+    (a ≡ localCount (mapping s) (s .args .processor)) × CountedFits a
+counted c = with-size CountedFits (sym (ap countedAs (c .n .given .1)) ∙ answer (c .before .before)) (local-count-small _ _)
 
 cast-t13 : tie.Need-cast-t13
-cast-t13 c =
-    record { fits = subst (λ (a : LocalCountAnswer). a .elements < 2 ^ 32) (sym (counted (c .before))) (local-count-small _ _) }
+cast-t13 c = record { fits = omega (arith, counted (c .before) .1) }
 
 enum-known-e : tie.Need-enum-known-e
 enum-known-e c = search needs
@@ -47,7 +49,8 @@ returns : tie.Need-returns
 returns c = counted (c .before)
 
 returns-2 : tie.Need-returns-2
-returns-2 c = sym (ap countedAs (c .before .e .given .1)) ∙ answer (c .before .before .before)
+returns-2 c =
+    with-size CountedFits (sym (ap countedAs (c .before .e .given .1)) ∙ answer (c .before .before .before)) (local-count-small _ _)
 
 pub hpf-local-count-spec : {M : Type 1} → statement M
 hpf-local-count-spec =

@@ -1,6 +1,6 @@
 -- `hpf_ownership` meets its contract: the numbers that `ownership` answers fit the fields.
-use Prim.Native.Nat.{_^_, _<_}
-use mathlib.Core.Path.{_≡_, sym, ap, subst, _∙_}
+use mathlib.Core.Path.{_≡_, sym, ap, _∙_}
+use native.Mathlib.Omega.{arith}
 use borrow.Author.Needs.{needs}
 use mir.Syntax.{w64}
 use mir.ValLaws.{toZ-ofZ}
@@ -8,6 +8,8 @@ use Rattle.model.specs.declared.Mapping.{Mapping}
 use Rattle.model.specs.Calls.{OwnershipAnswer, ownership}
 use Rattle.model.proofs.AnswerLaws.{ownership-small}
 use Rattle.mapping.specs.Answers.{mappingOf, ownedAs}
+use Rattle.hpfaddr.specs.Sizes.{OwnedFits}
+use Rattle.hpfaddr.proofs.AnswerSizes.{with-size}
 use Rattle.hpfaddr.proofs.ParameterLaws.{mapping-read}
 use Rattle.hpfaddr.proofs.hpf_ownership.Statement.{statement}
 use Rattle.hpfaddr.proofs.hpf_ownership.Tie as tie
@@ -33,20 +35,15 @@ enum-known-processor : tie.Need-enum-known-processor
 enum-known-processor c = search needs
 
 owned : (c : tie.After-processor) → let s : tie.Start = c .before .before .before .before in
-    record { refusal = 0; processor = c .processor .given .0 .0; address = c .processor .given .0 .1 .0 .0 } ≡ ownership (mapping s) (s .args .index)
-owned c = sym (ap ownedAs (c .processor .given .1)) ∙ answer (c .before .before)
-
-small : (c : tie.After-processor) → (c .processor .given .0 .0 < 2 ^ 32) × (c .processor .given .0 .1 .0 .0 < 2 ^ 32)
-small c =
-    let o = owned c in
-    subst (λ (a : OwnershipAnswer). (a .processor < 2 ^ 32) × (a .address < 2 ^ 32)) (sym o)
-    (ownership-small _ _ (ap (λ (a : OwnershipAnswer). a .refusal) (sym o)))
+    let a : OwnershipAnswer = record { refusal = 0; processor = c .processor .given .0 .0; address = c .processor .given .0 .1 .0 .0 } in
+    (a ≡ ownership (mapping s) (s .args .index)) × OwnedFits a
+owned c = with-size OwnedFits (sym (ap ownedAs (c .processor .given .1)) ∙ answer (c .before .before)) (ownership-small _ _)
 
 cast-t14 : tie.Need-cast-t14
-cast-t14 c = record { fits = small (c .before) .0 }
+cast-t14 c = record { fits = omega (arith, owned (c .before) .1) }
 
 cast-t15 : tie.Need-cast-t15
-cast-t15 c = record { fits = small (c .before .before) .1 }
+cast-t15 c = record { fits = omega (arith, owned (c .before .before) .1) }
 
 enum-known-e : tie.Need-enum-known-e
 enum-known-e c = search needs
@@ -55,7 +52,8 @@ returns : tie.Need-returns
 returns c = owned (c .before .before)
 
 returns-2 : tie.Need-returns-2
-returns-2 c = sym (ap ownedAs (c .before .e .given .1)) ∙ answer (c .before .before .before)
+returns-2 c =
+    with-size OwnedFits (sym (ap ownedAs (c .before .e .given .1)) ∙ answer (c .before .before .before)) (ownership-small _ _)
 
 pub hpf-ownership-spec : {M : Type 1} → statement M
 hpf-ownership-spec =

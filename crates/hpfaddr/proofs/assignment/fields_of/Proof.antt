@@ -1,8 +1,9 @@
 -- `fields_of` meets its contract: each case has its fields, and its number fits the field.
 use mathlib.Core.Path.{sym, ap, subst}
+use native.Mathlib.Omega.{arith}
 use borrow.Author.Needs.{needs}
 use Rattle.transfer.specs.Answers.{transferredAs}
-use Rattle.hpfaddr.specs.Fields.{Small}
+use Rattle.hpfaddr.specs.Sizes.{TransferredFits}
 use Rattle.hpfaddr.proofs.assignment.fields_of.Statement.{statement}
 use Rattle.hpfaddr.proofs.assignment.fields_of.Tie as tie
 
@@ -12,7 +13,7 @@ enum-known-t c = search needs
 cast-t6 : tie.Need-cast-t6
 cast-t6 c =
     let arm = c .before in
-    record { fits = subst Small (ap transferredAs (arm .t .given .1)) (arm .before .before .pre) .0 }
+    record { fits = omega (arith, subst TransferredFits (ap transferredAs (arm .t .given .1)) (arm .before .before .pre)) }
 
 enum-known-t-2 : tie.Need-enum-known-t-2
 enum-known-t-2 c = search needs
@@ -20,7 +21,7 @@ enum-known-t-2 c = search needs
 cast-t7 : tie.Need-cast-t7
 cast-t7 c =
     let arm = c .before in
-    record { fits = subst Small (ap transferredAs (arm .t2 .given .1)) (arm .before .before .pre) .1 }
+    record { fits = omega (arith, subst TransferredFits (ap transferredAs (arm .t2 .given .1)) (arm .before .before .pre)) }
 
 enum-known-t-3 : tie.Need-enum-known-t-3
 enum-known-t-3 c = search needs

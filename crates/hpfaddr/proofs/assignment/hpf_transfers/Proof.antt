@@ -1,5 +1,5 @@
 -- `hpf_transfers` meets its contract: what `transfers` answers and leaves is of the parameters, and its numbers fit the fields.
-use mathlib.Core.Path.{_≡_, sym, ap, subst, _∙_}
+use mathlib.Core.Path.{_≡_, ap, subst, _∙_}
 use borrow.Author.Needs.{needs}
 use denote.Ref.{now}
 use mir.Syntax.{w64}
@@ -7,8 +7,9 @@ use Rattle.numbers.proofs.Signed.{back}
 use Rattle.model.specs.declared.Section.{Section}
 use Rattle.model.specs.Transfers.{Lists, TransferCall, transfers, ListsAfter}
 use Rattle.transfer.specs.Answers.{callOf, listsOf, transferredAs}
-use Rattle.hpfaddr.specs.Fields.{sectionFrom, Small}
-use Rattle.hpfaddr.proofs.AnswerSizes.{transfers-small}
+use Rattle.hpfaddr.specs.Fields.{sectionFrom}
+use Rattle.hpfaddr.specs.Sizes.{TransferredFits}
+use Rattle.hpfaddr.proofs.AnswerSizes.{with-size, transfers-small}
 use Rattle.hpfaddr.proofs.ParameterLaws.{section-read, call-read}
 use Rattle.hpfaddr.proofs.assignment.hpf_transfers.Statement.{statement}
 use Rattle.hpfaddr.proofs.assignment.hpf_transfers.Tie as tie
@@ -61,7 +62,7 @@ answer c = c .transfers .ensures .0 ∙ ap transfers (read (c .before .before .b
 fields-of-requires : tie.Need-fields-of-requires
 fields-of-requires c κs =
     let done = c .before .before .before .before .before .before in
-    subst Small (sym (answer done)) (transfers-small _)
+    with-size TransferredFits (answer done) (transfers-small _) .1
 
 same-length : tie.Need-same-length
 same-length c = search needs
@@ -74,10 +75,9 @@ same-length-3 c = search needs
 
 returns : tie.Need-returns
 returns c =
-    let done = c .before .before .before .before .before .before .before in (
-      c .fields-of .ensures ∙ answer done,
-      lists-read (done .before .before .before .before) _ (done .transfers .ensures .1),
-    )
+    let done = c .before .before .before .before .before .before .before in
+    let a = with-size TransferredFits (c .fields-of .ensures ∙ answer done) (transfers-small _) in
+    ((a .0, lists-read (done .before .before .before .before) _ (done .transfers .ensures .1)), a .1)
 
 pub hpf-transfers-spec : {M : Type 1} → statement M
 hpf-transfers-spec =

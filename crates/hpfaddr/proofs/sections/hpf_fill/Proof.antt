@@ -1,7 +1,8 @@
 -- `hpf_fill` meets its contract: the numbers that `fill_into_bytes` reports fit their fields, and the bytes are those that it left.
-use Prim.Native.Nat.{ℕ, _^_, _<_}
-use mathlib.Core.Path.{_≡_, sym, ap, subst, _∙_}
+use Prim.Native.Nat.{ℕ}
+use mathlib.Core.Path.{_≡_, sym, ap, _∙_}
 use mathlib.Core.List.{List}
+use native.Mathlib.Omega.{arith}
 use borrow.Author.Needs.{needs}
 use denote.Ref.{now}
 use mir.Syntax.{w64}
@@ -10,9 +11,10 @@ use Rattle.model.specs.declared.Section.{Section}
 use Rattle.model.specs.ByteFills.{ByteFill, inWords}
 use Rattle.model.specs.Calls.{fill}
 use Rattle.fill.specs.declared.Filled.the-variants.{Done}
-use Rattle.fill.specs.Answers.{FillReport, FilledBytes, reportAs, reportOf}
+use Rattle.fill.specs.Answers.{FilledBytes, reportAs, reportOf}
 use Rattle.hpfaddr.specs.Fields.{sectionFrom}
-use Rattle.hpfaddr.proofs.AnswerSizes.{fill-small}
+use Rattle.hpfaddr.specs.Sizes.{FilledFits}
+use Rattle.hpfaddr.proofs.AnswerSizes.{with-size, fill-small}
 use Rattle.hpfaddr.proofs.ParameterLaws.{section-read, fill-read}
 use Rattle.hpfaddr.proofs.sections.hpf_fill.Statement.{statement}
 use Rattle.hpfaddr.proofs.sections.hpf_fill.Tie as tie
@@ -52,19 +54,20 @@ enum-known-r : tie.Need-enum-known-r
 enum-known-r c = search needs
 
 report : (c : tie.After-r) → let s : tie.Start = c .before .before .before .before .before .before .before .before in
-    reportAs (Done (c .r .given .0 .0)) ≡ reportOf (fill (inWords (call s)))
+    let a = reportAs (Done (c .r .given .0 .0)) in
+    (a ≡ reportOf (fill (inWords (call s)))) × FilledFits a
 report c =
     let f = c .before .before .before .before in
-    sym (ap reportAs (c .r .given .1)) ∙ told f _ (f .fill-into-bytes .ensures) .0
+    with-size FilledFits (sym (ap reportAs (c .r .given .1)) ∙ told f _ (f .fill-into-bytes .ensures) .0) (fill-small _)
 
 cast-t21 : tie.Need-cast-t21
-cast-t21 c = record { fits = subst (λ (a : FillReport). a .entries < 2 ^ 32) (sym (report (c .before .before))) (fill-small _ .0) }
+cast-t21 c = record { fits = omega (arith, report (c .before .before) .1) }
 
 cast-t22 : tie.Need-cast-t22
-cast-t22 c = record { fits = subst (λ (a : FillReport). a .tries < 2 ^ 32) (sym (report (c .before .before .before))) (fill-small _ .1) }
+cast-t22 c = record { fits = omega (arith, report (c .before .before .before) .1) }
 
 cast-t23 : tie.Need-cast-t23
-cast-t23 c = record { fits = subst (λ (a : FillReport). a .place < 2 ^ 32) (sym (report (c .before .before .before .before))) (fill-small _ .2) }
+cast-t23 c = record { fits = omega (arith, report (c .before .before .before .before) .1) }
 
 enum-known-e : tie.Need-enum-known-e
 enum-known-e c = search needs
@@ -76,7 +79,7 @@ returns : tie.Need-returns
 returns c =
     let arm = c .before .before .before .before in
     let f = arm .before .before .before .before in
-    (report arm, told f _ (f .fill-into-bytes .ensures) .1)
+    ((report arm .0, told f _ (f .fill-into-bytes .ensures) .1), report arm .1)
 
 same-length-2 : tie.Need-same-length-2
 same-length-2 c = search needs
@@ -85,7 +88,8 @@ returns-2 : tie.Need-returns-2
 returns-2 c =
     let f = c .before .before .before .before .before in
     let t = told f _ (f .fill-into-bytes .ensures) in
-    (sym (ap reportAs (c .before .e .given .1)) ∙ t .0, t .1)
+    let a = with-size FilledFits (sym (ap reportAs (c .before .e .given .1)) ∙ t .0) (fill-small _) in
+    ((a .0, t .1), a .1)
 
 pub hpf-fill-spec : {M : Type 1} → statement M
 hpf-fill-spec =

@@ -1,6 +1,6 @@
 -- `hpf_first_place` meets its contract: the place that `first_place` answers fits its field.
-use Prim.Native.Nat.{_^_, _<_}
-use mathlib.Core.Path.{_≡_, sym, ap, subst, _∙_}
+use mathlib.Core.Path.{_≡_, sym, ap, _∙_}
+use native.Mathlib.Omega.{arith}
 use borrow.Author.Needs.{needs}
 use mir.Syntax.{w64}
 use mir.ValLaws.{toZ-ofZ}
@@ -8,7 +8,8 @@ use Rattle.model.specs.declared.Section.{Section}
 use Rattle.model.specs.Calls.{PlaceAnswer, firstPlaceAt}
 use Rattle.section.specs.Answers.{placedAs}
 use Rattle.hpfaddr.specs.Fields.{sectionFrom}
-use Rattle.hpfaddr.proofs.AnswerSizes.{first-place-small}
+use Rattle.hpfaddr.specs.Sizes.{PlacedFits}
+use Rattle.hpfaddr.proofs.AnswerSizes.{with-size, first-place-small}
 use Rattle.hpfaddr.proofs.ParameterLaws.{section-read}
 use Rattle.hpfaddr.proofs.sections.hpf_first_place.Statement.{statement}
 use Rattle.hpfaddr.proofs.sections.hpf_first_place.Tie as tie
@@ -35,12 +36,12 @@ enum-known-t : tie.Need-enum-known-t
 enum-known-t c = search needs
 
 placed : (c : tie.After-t) → let s : tie.Start = c .before .before .before .before in
-    record { refusal = 0; place = c .t .given .0 .0 .0 } ≡ firstPlaceAt (section s) (s .args .processor)
-placed c = sym (ap placedAs (c .t .given .1)) ∙ answer (c .before .before)
+    let a : PlaceAnswer = record { refusal = 0; place = c .t .given .0 .0 .0 } in
+    (a ≡ firstPlaceAt (section s) (s .args .processor)) × PlacedFits a
+placed c = with-size PlacedFits (sym (ap placedAs (c .t .given .1)) ∙ answer (c .before .before)) (first-place-small _ _)
 
 cast-t16 : tie.Need-cast-t16
-cast-t16 c =
-    record { fits = subst (λ (a : PlaceAnswer). a .place < 2 ^ 32) (sym (placed (c .before .before))) (first-place-small _ _) }
+cast-t16 c = record { fits = omega (arith, placed (c .before .before) .1) }
 
 enum-known-e : tie.Need-enum-known-e
 enum-known-e c = search needs
@@ -49,7 +50,8 @@ returns : tie.Need-returns
 returns c = placed (c .before .before)
 
 returns-2 : tie.Need-returns-2
-returns-2 c = sym (ap placedAs (c .before .e .given .1)) ∙ answer (c .before .before .before)
+returns-2 c =
+    with-size PlacedFits (sym (ap placedAs (c .before .e .given .1)) ∙ answer (c .before .before .before)) (first-place-small _ _)
 
 pub hpf-first-place-spec : {M : Type 1} → statement M
 hpf-first-place-spec =

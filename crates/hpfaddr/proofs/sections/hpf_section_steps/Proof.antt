@@ -1,10 +1,13 @@
--- `hpf_section_steps` meets its contract: each case of `section_steps` has its fields.
+-- `hpf_section_steps` meets its contract: each case of `section_steps` has its fields, and its numbers fit them.
 use mathlib.Core.Path.{_≡_, sym, ap, _∙_}
 use borrow.Author.Needs.{needs}
 use Rattle.model.specs.declared.Section.{Section}
-use Rattle.model.specs.Calls.{sectionSteps}
+use Rattle.model.specs.Calls.{SectionStepsAnswer, sectionSteps}
+use Rattle.section.specs.declared.report.SectionSteps.{SectionSteps}
 use Rattle.section.specs.Answers.{stepsAs}
 use Rattle.hpfaddr.specs.Fields.{sectionFrom}
+use Rattle.hpfaddr.specs.Sizes.{StepsFit}
+use Rattle.hpfaddr.proofs.AnswerSizes.{with-size, section-steps-small}
 use Rattle.hpfaddr.proofs.ParameterLaws.{section-read}
 use Rattle.hpfaddr.proofs.sections.hpf_section_steps.Statement.{statement}
 use Rattle.hpfaddr.proofs.sections.hpf_section_steps.Tie as tie
@@ -25,6 +28,11 @@ answer c =
     let s = c .before .before in
     c .section-steps .ensures
     ∙ ap sectionSteps (section-read _ _ _ _ _ _ _ _ _ (s .fits .cells) (s .fits .processors) (s .fits .block) (s .fits .stride) (s .fits .offset) (s .fits .size) (s .fits .lower) (s .fits .upper) (s .fits .step) (c .before .section-of .ensures))
+
+-- the fields of each case
+met : (c : tie.After-section-steps) (r : SectionSteps) {a : SectionStepsAnswer} → a ≡ stepsAs r → c .section-steps .result ≡ r
+    → (a ≡ sectionSteps (section (c .before .before))) × StepsFit a
+met c r e is = with-size StepsFit (e ∙ sym (ap stepsAs is) ∙ answer c) (section-steps-small _)
 
 enum-known-n : tie.Need-enum-known-n
 enum-known-n c = search needs
@@ -53,22 +61,22 @@ no-step-requires-2 c κs = search needs
 returns : tie.Need-returns
 returns c =
     let arm = c .before .before in
-    c .no-step .ensures ∙ sym (ap stepsAs (arm .n .given .1)) ∙ answer (arm .before .before)
+    met (arm .before .before) _ (c .no-step .ensures) (arm .n .given .1)
 
 returns-2 : tie.Need-returns-2
 returns-2 c =
     let arm = c .before .before in
-    c .step-fields .ensures ∙ sym (ap stepsAs (arm .n2 .given .1)) ∙ answer (arm .before .before)
+    met (arm .before .before) _ (c .step-fields .ensures) (arm .n2 .given .1)
 
 returns-3 : tie.Need-returns-3
 returns-3 c =
     let arm = c .before .before in
-    c .step-fields2 .ensures ∙ sym (ap stepsAs (arm .n3 .given .1)) ∙ answer (arm .before .before)
+    met (arm .before .before) _ (c .step-fields2 .ensures) (arm .n3 .given .1)
 
 returns-4 : tie.Need-returns-4
 returns-4 c =
     let arm = c .before .before in
-    c .no-step2 .ensures ∙ sym (ap stepsAs (arm .e .given .1)) ∙ answer (arm .before .before)
+    met (arm .before .before) _ (c .no-step2 .ensures) (arm .e .given .1)
 
 pub hpf-section-steps-spec : {M : Type 1} → statement M
 hpf-section-steps-spec =

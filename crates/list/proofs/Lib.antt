@@ -1,2 +1,0 @@
--- The laws behind the program's loop.
-pub mod WrittenLaws

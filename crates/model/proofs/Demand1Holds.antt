@@ -1,0 +1,87 @@
+-- Demand 1 holds of every call. Assumes nothing.
+use Prim.Native.Nat.{ℕ}
+use mathlib.Core.Path.{_≡_, refl}
+use mathlib.Core.Bool.{Bool, true, false}
+use mathlib.Core.List.{List, [], _∷_, _++_}
+use lib.ListN.{take}
+use borrow.Author.Tests.{eq-eqb, ne-eqb}
+use native.Mathlib.Omega.{arith}
+use Rattle.model.specs.declared.Steps.{Steps}
+use Rattle.model.specs.declared.Steps.the-variants.{NoStep, OneStep, TwoSteps}
+use Rattle.model.specs.Sections.{count}
+use Rattle.model.specs.Steps.{stepsOf}
+use Rattle.model.specs.Questions.{ask, firstNo, ofMapping, ofSection, ofProcessor, ofIndex, ofAddress}
+use Rattle.model.specs.Calls.{ownership, goingBack, localCount, stepsReport, sectionSteps, firstPlaceAt}
+use Rattle.model.specs.Calls.{ofFill, fill}
+use Rattle.model.specs.ByteFills.{ByteFill, inWords, storeEntries, bytesAfter}
+use Rattle.model.specs.Transfers.{Lists, TransferCall, ofTransfer, entriesOf, transfers, ListsAfter}
+use Rattle.model.specs.Sheets.{Sheet, IsPrint, Place, noSheet, Reads, formed, malformed}
+use Rattle.model.specs.Demand1.{Answers, Demand1, ByTheRule, NotFilled, Listed, NotListed, Decides}
+use Rattle.model.proofs.AnsweredLaws.{either-of}
+use Rattle.model.proofs.FillCalls.{fill-answers}
+use Rattle.model.proofs.ByteFillsHold.{outcome-is}
+
+no-refusal : (n : ℕ) (s : Steps) → stepsReport n s .refusal ≡ 0
+no-refusal n NoStep = refl
+no-refusal n (OneStep x) = refl
+no-refusal n (TwoSteps r w) = refl
+
+-- a refused fill stores nothing
+byte-fill-answers : (c : ByteFill)
+    → Answers (fill (inWords c)) (λ a. a .refusal) (ofFill (inWords c))
+    (λ a. ByTheRule (inWords c) (a .filled) × (bytesAfter c ≡ storeEntries (c .bytes) 0 (take (a .filled .entries) (a .filled .list))))
+    (λ a. NotFilled (inWords c) (a .filled) × (bytesAfter c ≡ c .bytes))
+unfolding bytesAfter storeEntries
+byte-fill-answers c =
+    let a = fill-answers (inWords c) in
+    record {
+      first = a .first;
+      every = a .every;
+      accepted = λ e. (a .accepted e, refl);
+      refused = λ g. let n = a .refused g in (n, rw (n .0 .0));
+    }
+
+-- the numbers of a transfer
+transfer-numbers : (c : TransferCall)
+    → Answers (transfers c) (λ a. a .refusal) (ofTransfer c) (λ a. (a .entries ≡ entriesOf c) × (a .needed ≡ 0))
+    (λ a. (a .entries ≡ 0) × (a .refusal ≡ 13 → a .needed ≡ entriesOf c) × ((a .refusal ≡ 13 → ⊥) → a .needed ≡ 0))
+unfolding transfers
+transfer-numbers c =
+    let e : ℕ = firstNo (ofTransfer c) in
+    either-of _ _ _ (ofTransfer c) refl _ _ refl refl (refl, refl) (refl, (λ z. rw (eq-eqb e 13 z)), (λ f. rw (ne-eqb e 13 f)))
+
+transfer-answers : (c : TransferCall) (after : Lists) → ListsAfter c after
+    → Answers (transfers c) (λ a. a .refusal) (ofTransfer c) (λ a. Listed c a after) (λ a. NotListed c a after)
+transfer-answers c after l =
+    let a = transfer-numbers c in
+    record {
+      first = a .first;
+      every = a .every;
+      accepted = λ e. let v = a .accepted e in (v .0, v .1, rw (v .0) at (l .accepted e));
+      refused = λ f. let v = a .refused f in (v .0, v .1, v .2, l .refused f);
+    }
+
+sheet-answers : (s : List ℕ) (e n : ℕ) (w : Sheet) → Reads s e n w → (b : Bool) → Decides s b
+    → Answers e (λ a. a) (ask 14 b ∷ []) (λ a. IsPrint w s × (n ≡ 0)) (λ a. Place IsPrint s n × (w ≡ noSheet))
+unfolding firstNo
+sheet-answers s e n w (formed p) true d =
+    record { first = refl; every = λ z. (refl, tt); accepted = λ z. (p, refl); refused = λ f. absurd (f refl) }
+sheet-answers s e n w (formed {w = v} p) false d = absurd (d .no refl v p)
+sheet-answers s e n w (malformed h) true d = absurd (h .refused (d .yes refl .0) (d .yes refl .1))
+sheet-answers s e n w (malformed h) false d =
+    record { first = refl; every = λ z. absurd (omega arith); accepted = λ z. absurd (omega arith); refused = λ f. (h, refl) }
+
+pub demand1 : Demand1
+unfolding ownership goingBack localCount sectionSteps firstPlaceAt
+demand1 = record {
+  of-ownership = λ m i. either-of _ _ _ (ofMapping m ++ ofIndex m i) refl _ _ refl refl (refl, refl) (refl, (refl, tt));
+  of-going-back = λ m q x. either-of _ _ _ (ofMapping m ++ ofProcessor m q ++ ofAddress m q x) refl _ _ refl refl refl (refl, tt);
+  of-local-count = λ m q. either-of _ _ _ (ofMapping m ++ ofProcessor m q) refl _ _ refl refl refl (refl, tt);
+  of-section-steps = λ x.
+      either-of _ _ _ (ofSection x) refl _ _ (no-refusal (count x) (stepsOf x)) refl refl ((refl, (refl, (refl, (refl, (refl, (refl, tt)))))), refl, refl);
+  of-first-place = λ x q. either-of _ _ _ (ofSection x ++ ofProcessor (x .mapping) q) refl _ _ refl refl refl (refl, tt);
+  of-fill = fill-answers;
+  of-byte-fill = λ c. rw (outcome-is c) (byte-fill-answers c);
+  of-transfers = transfer-answers;
+  of-sheet = sheet-answers;
+}

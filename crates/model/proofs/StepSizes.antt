@@ -1,0 +1,97 @@
+-- How large the numbers of a section's steps are.
+use Prim.Native.Nat.{ℕ, _+_, _*_, _^_, _≤_, _<_, zero-le}
+use mathlib.Core.Path.{_≡_}
+use native.Mathlib.Nat.{div-le-self, mul-le-mul-right}
+use native.Mathlib.Omega.{arith}
+use Rattle.numbers.specs.Gcd.{gcd}
+use Rattle.numbers.proofs.Division.{lt-of-mul, product-le}
+use Rattle.numbers.proofs.SearchLaws.{head-le}
+use Rattle.model.specs.declared.Section.{Section}
+use Rattle.model.specs.declared.Step.{Step}
+use Rattle.model.specs.declared.Steps.{Steps}
+use Rattle.model.specs.declared.Steps.the-variants.{NoStep, OneStep, TwoSteps}
+use Rattle.model.specs.Ownership.{courseCells}
+use Rattle.model.specs.Sections.{layout, count}
+use Rattle.model.specs.Steps.{processorIndex, returnIndex, processorStep, returnStep, oneStep, spread, stepsOf}
+use Rattle.model.specs.Questions.{firstNo, ofSection}
+use Rattle.model.proofs.QuestionLaws.{Accepted, accepted}
+use Rattle.model.proofs.SizedLaws.{course-high}
+use Rattle.model.proofs.SectionLaws.{spread-pos, spread-high}
+use Rattle.model.proofs.Rests.{Course}
+use Rattle.model.proofs.StepLaws.{step-cases, processor-law, return-law}
+use Rattle.model.proofs.WalkLaws.{course}
+
+-- ---- by course, block and spread
+
+-- no more cells than M times S, and a column move shorter than a block
+record Limited (M k S : ℕ) (r : Step) : Type 0 where
+  cells : r .cells ≤ M * S
+  courses : r .courses ≤ S
+  column : r .column < k
+
+module _ {M k S : ℕ} (h : Course M k S) where
+  courses-le : (c : ℕ) → c * M < M * S + M → c ≤ S
+  courses-le c l = omega (arith, lt-of-mul c (S + 1) M (omega arith))
+
+  processor-limited : gcd S M < k → Limited M k S (processorStep M k S)
+  unfolding processorStep processorIndex
+  processor-limited d =
+      let l = processor-law h d in
+      let n : processorStep M k S .cells ≤ M * S = mul-le-mul-right S (head-le _ 0 M M 1 zero-le (omega arith)) in
+      record { cells = n; courses = courses-le _ (omega (arith, l .form)); column = l .few }
+
+  return-limited : gcd S M < k → Limited M k S (returnStep M k S)
+  unfolding returnStep returnIndex
+  return-limited d =
+      let l = return-law h d in
+      let n : returnStep M k S .cells ≤ M * S = mul-le-mul-right S (head-le _ 0 M M 1 zero-le (omega arith)) in
+      record { cells = n; courses = courses-le _ (omega (arith, l .form, l .few)); column = l .few }
+
+  one-limited : Limited M k S (oneStep M S)
+  unfolding oneStep
+  one-limited = record { cells = div-le-self (M * S) (gcd S M); courses = div-le-self S (gcd S M); column = h .block-pos }
+
+-- ---- of an accepted section
+
+pub record Low (r : Step) : Type 0 where
+  pub cells : r .cells < 2 ^ 57
+  pub courses : r .courses < 2 ^ 31
+  pub column : r .column ≤ 65535
+
+abbrev pub AllLow : Steps → Type 0
+AllLow NoStep = Unit {0}
+AllLow (OneStep r) = Low r
+AllLow (TwoSteps r w) = Low r × Low w
+
+pub steps-low : (x : Section) → firstNo (ofSection x) ≡ 0 → AllLow (stepsOf x)
+unfolding stepsOf courseCells
+steps-low x ok =
+    step-cases AllLow (count x) M k S
+    (λ l. tt)
+    (λ l d. (low l _ (processor-limited h d), low l _ (return-limited h d)))
+    (λ l d. low l _ (one-limited h))
+  where
+    a : Accepted x
+    a = accepted x ok
+
+    M : ℕ
+    M = courseCells (layout x)
+
+    k : ℕ
+    k = layout x .block
+
+    S : ℕ
+    S = spread x
+
+    h : Course M k S
+    h = course (layout x) (a .sized .processors-pos) (a .sized .block-pos) (spread x) (spread-pos x ok)
+
+    -- with two elements S lies in the template
+    low : 2 ≤ count x → (r : Step) → Limited M k S r → Low r
+    low l r b =
+        let s : S ≤ 2147483647 = omega (arith, spread-high x ok l) in
+        record {
+          cells = omega (arith, b .cells, product-le 67108864 2147483647 (course-high (layout x) (a .sized)) s);
+          courses = omega (arith, b .courses);
+          column = omega (arith, b .column, a .sized .block-high);
+        }

@@ -1,0 +1,57 @@
+-- What is proved of the definitions, in one place: each theorem of docs/PROMISES.md that is about them alone, by its type.
+-- Statements only.
+use Prim.Native.Nat.{ℕ, _+_, _*_, _≤_, _<_}
+use mathlib.Core.Path.{_≡_}
+use lib.Dec.{T}
+use lib.IntN.{ℤ, pos}
+use lib.ListN.{drop}
+use Rattle.model.specs.declared.Mapping.{Mapping}
+use Rattle.model.specs.declared.Section.{Section}
+use Rattle.model.specs.declared.Steps.{Steps}
+use Rattle.model.specs.declared.Steps.the-variants.{NoStep, OneStep, TwoSteps}
+use Rattle.model.specs.Ownership.{nat}
+use Rattle.model.specs.Sections.{layout}
+use Rattle.model.specs.Steps.{spread, stepsOf}
+use Rattle.model.specs.Questions.{firstNo, ofSection}
+use Rattle.model.specs.Calls.{ownership, goingBack}
+use Rattle.model.specs.ByteFills.{ByteFill, bytesAfter, outcomeOf}
+use Rattle.model.specs.Transfers.{Assigned}
+use Rattle.model.specs.Demand1.{Demand1}
+use Rattle.model.specs.Demand2.{Demand2}
+use Rattle.model.specs.Demand3.{inWordLists, inByteLists, Demand3}
+use Rattle.model.specs.Starred.{every, table}
+
+-- "a section is accepted if every question that concerns its mapping and itself is answered yes"
+abbrev pub Accepts : Section → Type 0
+Accepts x = firstNo (ofSection x) ≡ 0
+
+-- "courses of return × column move of r + courses of r × y of return = S"; and from no column do both steps fit
+abbrev pub Balanced : ℕ → ℕ → Steps → Type 0
+Balanced k S NoStep = Unit {0}
+Balanced k S (OneStep m) = Unit {0}
+Balanced k S (TwoSteps r w) =
+    (w .courses * r .column + r .courses * w .column ≡ S) × ((q : ℕ) → q + r .column < k → w .column ≤ q → ⊥)
+
+pub record Promises : Type 0 where
+  -- demand 1, of every call
+  pub answers : Demand1
+  -- demand 2, and the calls of it undo each other
+  pub owners : (x : Section) → Accepts x → Demand2 x
+  pub there-and-back :
+      (m : Mapping) (i : ℤ) → ownership m i .refusal ≡ 0
+      → goingBack m (pos (ownership m i .processor)) (pos (ownership m i .address)) ≡ record { refusal = 0; index = nat i }
+  pub back-and-there :
+      (m : Mapping) (q x : ℤ) → goingBack m q x .refusal ≡ 0
+      → ownership m (pos (goingBack m q x .index)) ≡ record { refusal = 0; processor = nat q; address = nat x }
+  -- the two steps of a section
+  pub steps : (x : Section) → Accepts x → Balanced (layout x .block) (spread x) (stepsOf x)
+  -- demand 3, of fills into words and into bytes
+  pub word-fills : (x : Section) → Accepts x → Demand3 inWordLists x
+  pub byte-fills : (x : Section) → Accepts x → Demand3 inByteLists x
+  -- "up to 3 bytes left over are no entry and stay", and so do the bytes after the entries written
+  pub bytes-stay :
+      (c : ByteFill) (m : ℕ) → 4 * outcomeOf c .filled .entries ≤ m → drop m (bytesAfter c) ≡ drop m (c .bytes)
+  -- all pairs of an assignment
+  pub assignment : (left right : Section) → Accepts left → Accepts right → Assigned left right
+  -- the starred cases
+  pub starred : T (every table)

@@ -18,11 +18,12 @@ use Rattle.model.specs.Ownership.{nat}
 use Rattle.model.specs.Sections.{count, ownsAt, places, firstPlace}
 use Rattle.model.specs.Steps.{stepsOf}
 use Rattle.model.specs.Filling.{answer}
-use Rattle.model.specs.Questions.{firstNo, ofSection, ofProcessor, ofPlace, ofQuota}
+use Rattle.model.specs.Questions.{firstNo, ofSection, ofProcessor}
 use Rattle.model.specs.Calls.{stepsReport, forward, backward, sectionSteps, firstPlaceAt, FillCall, ofFill, requestOf, fill}
 use Rattle.model.specs.Transfers.{TransferCall, isEntry, pairPlaces, ofTransfer, entriesOf, transfers}
 use Rattle.model.proofs.QuestionLaws.{both-yes, stops}
-use Rattle.model.proofs.AnswerLaws.{refusal-le, answered}
+use Rattle.model.proofs.AnsweredLaws.{refusal-le, answered}
+use Rattle.model.proofs.FillCalls.{fill-cases}
 use Rattle.model.proofs.StepSizes.{Low, AllLow, steps-low}
 use Rattle.model.proofs.FillBounds.{fill-bounds}
 use Rattle.model.proofs.TransferLaws.{passing-count}
@@ -74,15 +75,11 @@ first-place-small x q =
 -- ---- fill
 
 place-small : (c : FillCall) → In32 (fill c .filled .place)
-unfolding fill answer requestOf
-place-small c = go (eqb (firstNo (ofFill c)) 0) refl
-  where
-    go : (b : Bool) → eqb (firstNo (ofFill c)) 0 ≡ b → In32 (fill c .filled .place)
-    go true p =
-        let rest = ofProcessor (c .section .mapping) (c .processor) ++ ofPlace (c .section) (c .processor) (c .place) ++ ofQuota (c .quota) in
-        let ok = both-yes (ofSection (c .section)) rest refl (eqb-true _ 0 p) .0 in
-        omega (arith, fill-bounds c .place, count-small (c .section) ok)
-    go false p = rw p (omega arith)
+place-small c =
+    fill-cases c (λ f. f .place ≤ count (c .section) → In32 (f .place))
+    (λ y h. omega (arith, count-small (c .section) (y .section)))
+    (λ f z h. omega (arith, z .0 .1 .1 .0))
+    (fill-bounds c .place)
 
 pub fill-small : (c : FillCall) → FilledFits (reportOf (fill c))
 unfolding fill answer requestOf

@@ -1,50 +1,22 @@
 -- What answers to ownership, going back and local count say of one another, and how large their numbers are.
-use Prim.Native.Nat.{ℕ, _^_, _≤_, _<_, zero-le}
+use Prim.Native.Nat.{ℕ, _^_, _<_}
 use mathlib.Core.Path.{_≡_, refl, _∙_}
-use mathlib.Core.Bool.{Bool, true, false, cond, _&&_}
-use mathlib.Core.List.{List, [], _∷_, _++_}
+use mathlib.Core.Bool.{Bool, true, false}
+use mathlib.Core.List.{_++_}
 use native.Mathlib.Omega.{arith}
-use lib.Dec.{leb, eqb}
+use lib.Dec.{eqb}
 use lib.IntN.{ℤ, pos}
-use borrow.Author.Tests.{leb-true, eqb-true, eqb-false, eq-eqb}
-use Rattle.numbers.proofs.Tests.{both-true}
+use borrow.Author.Tests.{eqb-true, eqb-false, eq-eqb}
 use Rattle.model.specs.declared.Mapping.{Mapping}
 use Rattle.model.specs.Ownership.{nat, layoutOf, ownerOf, rank, held, backTo}
-use Rattle.model.specs.Questions.{Question, firstNo, isIndex, ofMapping, ofProcessor, ofIndex, ofAddress}
+use Rattle.model.specs.Questions.{firstNo, isIndex, ofMapping, ofProcessor, ofIndex, ofAddress}
 use Rattle.model.specs.Calls.{OwnershipAnswer, ownership, GoingBackAnswer, goingBack, LocalCountAnswer, localCount}
 use Rattle.model.specs.Demand2.{LeadsBack}
 use Rattle.model.proofs.QuestionLaws.{Below, all-yes, none-no, both-yes, asks-on, below-is, is-below, index-is, mapped}
+use Rattle.model.proofs.AnsweredLaws.{answered}
 use Rattle.model.proofs.AddressLaws.{rank-lt, back-rank, rank-back}
 use Rattle.model.proofs.HeldLaws.{held-le}
 use Rattle.model.proofs.Demand2Holds.{owner-lt}
-
--- ---- what holds of an answer and of a refusal
-
--- no question's number is above b
-abbrev pub numberedTo : ℕ → List Question → Bool
-numberedTo b [] = true
-numberedTo b (q ∷ qs) = leb (q .number) b && numberedTo b qs
-
-pub refusal-le : (b : ℕ) (qs : List Question) → numberedTo b qs ≡ true → firstNo qs ≤ b
-unfolding firstNo
-refusal-le b [] h = zero-le
-refusal-le b (q ∷ qs) h = go (refusal-le b qs (each .1)) (q .holds) refl
-  where
-    each : (leb (q .number) b ≡ true) × (numberedTo b qs ≡ true)
-    each = both-true (leb (q .number) b) (numberedTo b qs) h
-
-    go : firstNo qs ≤ b → (t : Bool) → q .holds ≡ t → firstNo (q ∷ qs) ≤ b
-    go ih true p = rw p ih
-    go ih false p = rw p (leb-true (q .number) b (each .0))
-
--- a call's answer is a where no question is answered no, and else r, the refusal; there are 14 questions
-pub answered : {A : Type 0} (P : A → Type 0) (qs : List Question) → numberedTo 14 qs ≡ true → (a r : A)
-    → (firstNo qs ≡ 0 → P a) → (firstNo qs ≤ 14 → P r) → P (cond (eqb (firstNo qs) 0) a r)
-answered P qs h a r accepted refused = go (eqb (firstNo qs) 0) refl
-  where
-    go : (t : Bool) → eqb (firstNo qs) 0 ≡ t → P (cond t a r)
-    go true p = accepted (eqb-true (firstNo qs) 0 p)
-    go false p = refused (refusal-le 14 qs h)
 
 module _ (m : Mapping) where
   abbrev owner : ℕ → ℕ

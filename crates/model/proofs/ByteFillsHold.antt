@@ -109,8 +109,8 @@ module _ (c : ByteFill) where
   w = fill-leaves (inWords c)
 
   -- bytes after the entries written stay, those that are no entry among them
-  pub bytes-stay : (m : ℕ) → 4 * fill (inWords c) .filled .entries ≤ m → drop m (bytesAfter c) ≡ drop m (c .bytes)
-  unfolding bytesAfter
+  pub bytes-stay : (m : ℕ) → 4 * outcomeOf c .filled .entries ≤ m → drop m (bytesAfter c) ≡ drop m (c .bytes)
+  unfolding bytesAfter outcomeOf
   bytes-stay m h = stores-rest (c .bytes) 0 _ m (omega (arith, written-number w))
 
   -- the words of the bytes afterwards are the list that the fill leaves

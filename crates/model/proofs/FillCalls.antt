@@ -1,14 +1,14 @@
 -- What a call for a fill answers, and what an accepted one passed.
 use Prim.Native.Nat.{_≤_}
 use mathlib.Core.Path.{_≡_, refl, sym, _∙_, subst}
-use mathlib.Core.Bool.{Bool, true, false, cond, _&&_}
+use mathlib.Core.Bool.{true, cond, _&&_}
 use mathlib.Core.List.{_++_}
 use mathlib.Core.Logic.{_⊎_, inl, inr}
 use native.Mathlib.Omega.{arith}
 use lib.Dec.{ltb, eqb}
 use lib.IntN.{ℤ, pos}
 use lib.Signed.{leZ}
-use borrow.Author.Tests.{eqb-true, eqb-false, ltb-true}
+use borrow.Author.Tests.{eqb-true, ltb-true}
 use Rattle.numbers.proofs.Tests.{both-true, either-true}
 use Rattle.model.specs.declared.Section.{Section}
 use Rattle.model.specs.Ownership.{nat}
@@ -18,7 +18,7 @@ use Rattle.model.specs.Questions.{firstNo, isPlace, ofSection, ofProcess
 use Rattle.model.specs.Calls.{FillCall, ofFill, walkOf, requestOf, fill}
 use Rattle.model.specs.Demand1.{Answers, ByTheRule, NotFilled}
 use Rattle.model.proofs.QuestionLaws.{Natural, all-yes, both-yes, between-is}
-use Rattle.model.proofs.AnsweredLaws.{made-by}
+use Rattle.model.proofs.AnsweredLaws.{by-first-no, made-by}
 
 -- ---- the answer
 
@@ -66,12 +66,6 @@ pub fill-cases : (c : FillCall) (P : Filled → Type 0)
     → P (fill c .filled)
 fill-cases c P full none =
     let a = fill-answers c in
-    cases (eqb (fill c .refusal) 0)
-    (λ e.
-    let z : fill c .refusal ≡ 0 = eqb-true (fill c .refusal) 0 e in
-    subst P (sym (a .accepted z)) (full (passed c (sym (a .first) ∙ z))))
-    (λ e. none (fill c .filled) (a .refused (eqb-false (fill c .refusal) 0 e)))
-  where
-    cases : {Q : Type 0} (b : Bool) → (b ≡ true → Q) → (b ≡ false → Q) → Q
-    cases true f g = f refl
-    cases false f g = g refl
+    by-first-no {A = Unit {0}} (λ u. P (fill c .filled)) (ofFill c) (λ b. tt)
+    (λ z. subst P (sym (a .accepted (a .first ∙ z))) (full (passed c z)))
+    (λ f. none (fill c .filled) (a .refused (λ e. f (sym (a .first) ∙ e))))

@@ -7,6 +7,7 @@ pub mod SizedLaws
 pub mod QuestionLaws
 pub mod TripletLaws
 pub mod Demand2Holds
+pub mod AnsweredLaws
 pub mod AnswerLaws
 -- sections, their steps, and the walk by them
 pub mod SectionLaws
@@ -20,7 +21,6 @@ pub mod WalkLaws
 pub mod WalkTheorem
 pub mod StepSizes
 -- fills one after another, and demand 3
-pub mod AnsweredLaws
 pub mod FillCalls
 pub mod Fronts
 pub mod InTurnLaws

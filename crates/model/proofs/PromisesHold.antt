@@ -1,12 +1,8 @@
 -- Everything that is promised of the definitions holds.
-use Prim.Native.Nat.{ℕ, _*_, _≤_}
-use mathlib.Core.Path.{_≡_}
-use lib.ListN.{drop}
 use Rattle.model.specs.declared.Section.{Section}
 use Rattle.model.specs.Ownership.{courseCells}
 use Rattle.model.specs.Sections.{layout, count}
 use Rattle.model.specs.Steps.{spread, stepsOf}
-use Rattle.model.specs.ByteFills.{ByteFill, bytesAfter, outcomeOf}
 use Rattle.model.specs.Promises.{Accepts, Balanced, Promises}
 use Rattle.model.proofs.QuestionLaws.{accepted}
 use Rattle.model.proofs.SectionLaws.{spread-pos}
@@ -28,10 +24,6 @@ balanced x ok =
     step-cases (Balanced (layout x .block) (spread x)) (count x) (courseCells (layout x)) (layout x .block) (spread x)
     (λ few. tt) (λ several d. (determinant h d, never-both h d)) (λ several d. tt)
 
-stay : (c : ByteFill) (m : ℕ) → 4 * outcomeOf c .filled .entries ≤ m → drop m (bytesAfter c) ≡ drop m (c .bytes)
-unfolding outcomeOf
-stay c m h = bytes-stay c m h
-
 pub promises : Promises
 promises = record {
   answers = demand1;
@@ -41,7 +33,7 @@ promises = record {
   steps = balanced;
   word-fills = demand3;
   byte-fills = demand3-of-bytes;
-  bytes-stay = stay;
+  bytes-stay = bytes-stay;
   assignment = assigned;
   starred = starred;
 }

@@ -1,8 +1,10 @@
 -- How large the numbers of a section's steps are.
 use Prim.Native.Nat.{ℕ, _+_, _*_, _^_, _≤_, _<_, zero-le}
 use mathlib.Core.Path.{_≡_}
+use mathlib.Core.Bool.{Bool}
 use native.Mathlib.Nat.{div-le-self, mul-le-mul-right}
 use native.Mathlib.Omega.{arith}
+use Rattle.numbers.specs.Search.{passing, headOr}
 use Rattle.numbers.specs.Gcd.{gcd}
 use Rattle.numbers.proofs.Division.{lt-of-mul, product-le}
 use Rattle.numbers.proofs.SearchLaws.{head-le}
@@ -30,22 +32,26 @@ record Limited (M k S : ℕ) (r : Step) : Type 0 where
   column : r .column < k
 
 module _ {M k S : ℕ} (h : Course M k S) where
-  courses-le : (c : ℕ) → c * M < M * S + M → c ≤ S
-  courses-le c l = omega (arith, lt-of-mul c (S + 1) M (omega arith))
+  -- a step to within a block of whole courses
+  limited : (r : Step) → r .cells ≤ M * S → r .courses * M ≤ r .cells + r .column → r .column < k → Limited M k S r
+  limited r few near short =
+      record { cells = few; courses = omega (arith, lt-of-mul (r .courses) (S + 1) M (omega (arith, h .block-le))); column = short }
+
+  -- steps are sought among M multiples
+  sought : (f : ℕ → Bool) → headOr 0 (passing f 1 M) * S ≤ M * S
+  sought f = mul-le-mul-right S (head-le f 0 M M 1 zero-le (omega arith))
 
   processor-limited : gcd S M < k → Limited M k S (processorStep M k S)
   unfolding processorStep processorIndex
   processor-limited d =
       let l = processor-law h d in
-      let n : processorStep M k S .cells ≤ M * S = mul-le-mul-right S (head-le _ 0 M M 1 zero-le (omega arith)) in
-      record { cells = n; courses = courses-le _ (omega (arith, l .form)); column = l .few }
+      limited (processorStep M k S) (sought _) (omega (arith, l .form)) (l .few)
 
   return-limited : gcd S M < k → Limited M k S (returnStep M k S)
   unfolding returnStep returnIndex
   return-limited d =
       let l = return-law h d in
-      let n : returnStep M k S .cells ≤ M * S = mul-le-mul-right S (head-le _ 0 M M 1 zero-le (omega arith)) in
-      record { cells = n; courses = courses-le _ (omega (arith, l .form, l .few)); column = l .few }
+      limited (returnStep M k S) (sought _) (omega (arith, l .form)) (l .few)
 
   one-limited : Limited M k S (oneStep M S)
   unfolding oneStep

@@ -7,7 +7,7 @@
 
 #include "hpfaddr.h"
 
-/* a section of an array with offset 0, and a processor */
+/* a section of an array with offset and bounds 0, and a processor */
 typedef struct {
     int64_t cells, processors, block, stride, size;
     int64_t lower, upper, step;
@@ -16,35 +16,36 @@ typedef struct {
 
 static inline hpf_owned ownership(const input *in, int64_t index)
 {
-    return hpf_ownership(in->cells, in->processors, in->block, in->stride, 0, in->size, index);
+    return hpf_ownership(in->cells, in->processors, in->block, in->stride, 0, in->size, 0, 0, index);
 }
 
 static inline int64_t going_back(const input *in, int64_t address)
 {
-    return hpf_going_back(in->cells, in->processors, in->block, in->stride, 0, in->size, in->processor, address).index;
+    return hpf_going_back(in->cells, in->processors, in->block, in->stride, 0, in->size, 0, 0, in->processor,
+                          address).index;
 }
 
 static inline int64_t local_count(const input *in)
 {
-    return hpf_local_count(in->cells, in->processors, in->block, in->stride, 0, in->size, in->processor).elements;
+    return hpf_local_count(in->cells, in->processors, in->block, in->stride, 0, in->size, 0, 0, in->processor).elements;
 }
 
 static inline hpf_steps section_steps(const input *in)
 {
-    return hpf_section_steps(in->cells, in->processors, in->block, in->stride, 0, in->size, in->lower, in->upper,
+    return hpf_section_steps(in->cells, in->processors, in->block, in->stride, 0, in->size, 0, 0, in->lower, in->upper,
                              in->step);
 }
 
 static inline int64_t first_place(const input *in)
 {
-    return hpf_first_place(in->cells, in->processors, in->block, in->stride, 0, in->size, in->lower, in->upper,
+    return hpf_first_place(in->cells, in->processors, in->block, in->stride, 0, in->size, 0, 0, in->lower, in->upper,
                            in->step, in->processor).place;
 }
 
 /* a fill of so many entries, with a quota that is enough */
 static inline hpf_filled fill(const input *in, int64_t place, uint32_t *list, size_t entries)
 {
-    return hpf_fill(in->cells, in->processors, in->block, in->stride, 0, in->size, in->lower, in->upper, in->step,
+    return hpf_fill(in->cells, in->processors, in->block, in->stride, 0, in->size, 0, 0, in->lower, in->upper, in->step,
                     in->processor, place, 3 * (int64_t)entries, (uint8_t *)list, 4 * entries);
 }
 

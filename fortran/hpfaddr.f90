@@ -1,28 +1,32 @@
 ! hpfaddr: owners, local addresses, sections and assignments of one-dimensional
 ! block-cyclic arrays.
 !
-! A mapping is six numbers: a template of `cells` cells (1 to 2147483647) is
+! A mapping is eight numbers: a template of `cells` cells (1 to 2147483647) is
 ! dealt to `processors` processors (1 to 1024) in blocks of `block` cells (1 to
-! 65536); element i of an array of `size` elements (0 to 2147483647) sits on
-! cell stride*i + offset (stride 1 to 2147483647, offset 0 to 2147483647), and
-! the last element's cell is below `cells`.
+! 65536); an array of `size` elements (0 to 2147483647) is aligned to it. Indices
+! are the declared ones, array_lower to array_lower + size - 1, wherever they go in
+! or come out. Declared index j sits on declared cell stride*j + offset, which is
+! cell stride*j + offset - template_lower (stride 1 to 2147483647; offset and both
+! bounds -2147483647 to 2147483647, and so the last index and the last declared
+! cell). The first element's cell is 0 or more, the last one's below `cells`.
 !
-! Cells, elements, processors, addresses and positions count from 0. The owner
-! of cell c is processor mod(c / block, processors). The local address of an
-! element is the number of elements with a lower index and the same owner.
+! Cells, processors, addresses and positions count from 0. The owner of cell c is
+! processor mod(c / block, processors). The local address of an element is the
+! number of elements with a lower index and the same owner.
 !
 ! A section lower:upper:step of the array (each -2147483647 to 2147483647, step
 ! not 0) has count = max(0, (upper - lower + step) / step) elements, as in
 ! Fortran; position t holds element lower + t*step. Its first and last element,
 ! if it has any, are elements of the array.
 !
-! A processor's list is made of the section's elements that it owns, in rising
-! position. A place is the position of one of them, or the count at the end. To
-! fill the whole list, go on from hpf_first_place until the count that
+! Each call takes these numbers one by one, or a mapping and a section as one thing
+! each, as here. A processor's list is made of the section's elements that it owns,
+! in rising position. A place is the position of one of them, or the count at the
+! end. To fill the whole list, go on from hpf_first_place until the count that
 ! hpf_section_steps gives:
 !
 !   do while (place /= count)
-!     filled = hpf_fill_words(..., lower, upper, step, processor, place, quota, list)
+!     filled = hpf_fill_words(mapping, section, processor, place, quota, list)
 !     use the addresses list(1:filled%entries)
 !     place = filled%place
 !   end do
@@ -41,215 +45,150 @@
 ! guaranteed.
 module hpfaddr
   use, intrinsic :: iso_c_binding, only: c_int32_t, c_int64_t, c_size_t, c_ptr, c_loc, c_null_ptr
+  use hpfaddr_numbers
   implicit none
   private
 
+  public :: hpf_mapping, hpf_triplet
   public :: hpf_owned, hpf_found, hpf_counted, hpf_steps, hpf_placed, hpf_filled, hpf_transferred
   public :: hpf_ownership, hpf_going_back, hpf_local_count
   public :: hpf_section_steps, hpf_first_place, hpf_fill, hpf_fill_words
   public :: hpf_transfers
   public :: hpf_accepted, hpf_refused_cells, hpf_refused_processors, hpf_refused_block
-  public :: hpf_refused_alignment, hpf_refused_size, hpf_refused_triplet, hpf_refused_section
-  public :: hpf_refused_processor_number, hpf_refused_element, hpf_refused_place
-  public :: hpf_refused_quota, hpf_refused_counts, hpf_refused_room
+  public :: hpf_refused_alignment, hpf_refused_size, hpf_refused_bounds, hpf_refused_triplet
+  public :: hpf_refused_section, hpf_refused_processor_number, hpf_refused_element
+  public :: hpf_refused_place, hpf_refused_quota, hpf_refused_counts, hpf_refused_room
   public :: hpf_least_quota, hpf_largest_quota
 
-  ! The component `refusal` of an answer: 0, or the number of the first question
-  ! answered no, of those that concern the call; every other component is then 0,
-  ! but for what 13 adds, and a lent list is left as it was. hpf_transfers asks 1
-  ! to 7 of the left section, then 1 to 7 of the right one, 8 of the sender, 8 of
-  ! the receiver, 12 and 13.
-  integer(c_int32_t), parameter :: hpf_accepted = 0
-  ! is cells in its range?
-  integer(c_int32_t), parameter :: hpf_refused_cells = 1
-  ! is processors in its range?
-  integer(c_int32_t), parameter :: hpf_refused_processors = 2
-  ! is block in its range?
-  integer(c_int32_t), parameter :: hpf_refused_block = 3
-  ! are stride and offset in their ranges?
-  integer(c_int32_t), parameter :: hpf_refused_alignment = 4
-  ! is size in its range, and the last element's cell below cells?
-  integer(c_int32_t), parameter :: hpf_refused_size = 5
-  ! are lower, upper and step in their ranges, and is step not 0?
-  integer(c_int32_t), parameter :: hpf_refused_triplet = 6
-  ! are the section's first and last elements, if any, from 0 to size - 1?
-  integer(c_int32_t), parameter :: hpf_refused_section = 7
-  ! is the processor from 0 to processors - 1?
-  integer(c_int32_t), parameter :: hpf_refused_processor_number = 8
-  ! is there an element of this index, or at this address?
-  integer(c_int32_t), parameter :: hpf_refused_element = 9
-  ! is the place the count, or a position whose element the processor owns?
-  integer(c_int32_t), parameter :: hpf_refused_place = 10
-  ! is the quota in its range?
-  integer(c_int32_t), parameter :: hpf_refused_quota = 11
-  ! have both sections the same count?
-  integer(c_int32_t), parameter :: hpf_refused_counts = 12
-  ! has each of the three lists at least as many entries as the pair?
-  integer(c_int32_t), parameter :: hpf_refused_room = 13
-
-  ! The quotas of a fill. A fill goes on only while it has the least of them left.
-  integer(c_int64_t), parameter :: hpf_least_quota = 3
-  integer(c_int64_t), parameter :: hpf_largest_quota = 1000000
-
-  ! Where an element is: its owner and its local address there.
-  type, bind(c) :: hpf_owned
-    integer(c_int32_t) :: refusal
-    integer(c_int32_t) :: processor
-    integer(c_int32_t) :: address
-  end type hpf_owned
-
-  ! Which element is at an address.
-  type, bind(c) :: hpf_found
-    integer(c_int32_t) :: refusal
-    integer(c_int32_t) :: index
-  end type hpf_found
-
-  ! How many elements a processor holds: the storage to allocate there.
-  type, bind(c) :: hpf_counted
-    integer(c_int32_t) :: refusal
-    integer(c_int32_t) :: elements
-  end type hpf_counted
-
-  ! How many elements a section has, and its 0, 1 or 2 steps from one element of
-  ! a processor to the next: the processor step, or the one step, and the return
-  ! step, whose column move is negative. The components of steps that there are
-  ! not are 0.
-  type, bind(c) :: hpf_steps
-    integer(c_int64_t) :: refusal
-    integer(c_int64_t) :: count
-    integer(c_int64_t) :: steps
+  ! A mapping. Bounds that are left out are 0, as in
+  ! hpf_mapping(cells=96, processors=3, block=4, stride=1, offset=0, size=96).
+  type :: hpf_mapping
     integer(c_int64_t) :: cells
-    integer(c_int64_t) :: courses
-    integer(c_int64_t) :: column
-    integer(c_int64_t) :: return_cells
-    integer(c_int64_t) :: return_courses
-    integer(c_int64_t) :: return_column
-  end type hpf_steps
+    integer(c_int64_t) :: processors
+    integer(c_int64_t) :: block
+    integer(c_int64_t) :: stride
+    integer(c_int64_t) :: offset
+    integer(c_int64_t) :: size
+    integer(c_int64_t) :: array_lower = 0
+    integer(c_int64_t) :: template_lower = 0
+  end type hpf_mapping
 
-  ! Where a processor's list begins: the lowest position whose element it owns,
-  ! or the count if none.
-  type, bind(c) :: hpf_placed
-    integer(c_int32_t) :: refusal
-    integer(c_int32_t) :: place
-  end type hpf_placed
+  ! A section. Its step is the stride of a Fortran subscript triplet.
+  type :: hpf_triplet
+    integer(c_int64_t) :: lower
+    integer(c_int64_t) :: upper
+    integer(c_int64_t) :: stride
+  end type hpf_triplet
 
-  ! What a fill did: how many addresses it wrote, the tries it paid for them, and
-  ! the place where the next fill goes on, or the count at the end.
-  type, bind(c) :: hpf_filled
-    integer(c_int32_t) :: refusal
-    integer(c_int32_t) :: entries
-    integer(c_int32_t) :: tries
-    integer(c_int32_t) :: place
-  end type hpf_filled
+  ! The owner and the local address of the element with this declared index.
+  interface hpf_ownership
+    procedure plain_ownership, typed_ownership
+  end interface hpf_ownership
 
-  ! What a transfer did: how many entries the pair has, or, with refusal 13, how
-  ! many it needs room for.
-  type, bind(c) :: hpf_transferred
-    integer(c_int32_t) :: refusal
-    integer(c_int32_t) :: entries
-    integer(c_int32_t) :: needed
-  end type hpf_transferred
+  ! The element that a processor, 0 to processors - 1, holds at a local address,
+  ! 0 to one below its number of elements.
+  interface hpf_going_back
+    procedure plain_going_back, typed_going_back
+  end interface hpf_going_back
 
-  interface
+  ! The number of elements that a processor, 0 to processors - 1, holds.
+  interface hpf_local_count
+    procedure plain_local_count, typed_local_count
+  end interface hpf_local_count
 
-    ! The owner and the local address of the element with this index, 0 to size - 1.
-    pure function hpf_ownership(cells, processors, block, stride, offset, size, index) &
-        result(owned) bind(c, name='hpf_ownership')
-      import :: c_int64_t, hpf_owned
-      integer(c_int64_t), value :: cells, processors, block, stride, offset, size
-      integer(c_int64_t), value :: index
-      type(hpf_owned) :: owned
-    end function hpf_ownership
+  ! The count and the steps of a section.
+  interface hpf_section_steps
+    procedure plain_section_steps, typed_section_steps
+  end interface hpf_section_steps
 
-    ! The element that a processor, 0 to processors - 1, holds at a local address,
-    ! 0 to one below its number of elements.
-    pure function hpf_going_back(cells, processors, block, stride, offset, size, processor, address) &
-        result(found) bind(c, name='hpf_going_back')
-      import :: c_int64_t, hpf_found
-      integer(c_int64_t), value :: cells, processors, block, stride, offset, size
-      integer(c_int64_t), value :: processor, address
-      type(hpf_found) :: found
-    end function hpf_going_back
+  ! The place at which the list of a processor, 0 to processors - 1, begins.
+  interface hpf_first_place
+    procedure plain_first_place, typed_first_place
+  end interface hpf_first_place
 
-    ! The number of elements that a processor, 0 to processors - 1, holds.
-    pure function hpf_local_count(cells, processors, block, stride, offset, size, processor) &
-        result(counted) bind(c, name='hpf_local_count')
-      import :: c_int64_t, hpf_counted
-      integer(c_int64_t), value :: cells, processors, block, stride, offset, size
-      integer(c_int64_t), value :: processor
-      type(hpf_counted) :: counted
-    end function hpf_local_count
-
-    ! The count and the steps of a section.
-    pure function hpf_section_steps(cells, processors, block, stride, offset, size, &
-        lower, upper, step) result(steps) bind(c, name='hpf_section_steps')
-      import :: c_int64_t, hpf_steps
-      integer(c_int64_t), value :: cells, processors, block, stride, offset, size
-      integer(c_int64_t), value :: lower, upper, step
-      type(hpf_steps) :: steps
-    end function hpf_section_steps
-
-    ! The place at which the list of a processor, 0 to processors - 1, begins.
-    pure function hpf_first_place(cells, processors, block, stride, offset, size, &
-        lower, upper, step, processor) result(placed) bind(c, name='hpf_first_place')
-      import :: c_int64_t, hpf_placed
-      integer(c_int64_t), value :: cells, processors, block, stride, offset, size
-      integer(c_int64_t), value :: lower, upper, step
-      integer(c_int64_t), value :: processor
-      type(hpf_placed) :: placed
-    end function hpf_first_place
-
-    ! Writes the addresses of a processor's list, from a place on, into a list of
-    ! bytes, 4 to an address, the lowest first. It goes on while the place is not
-    ! the count, the list has an unused entry, and 3 tries or more are left of the
-    ! quota, 3 to 1000000. Bytes after the entries written stay, and so do up to 3
-    ! at the end. The list may be c_null_ptr only if list_bytes is 0.
-    function hpf_fill(cells, processors, block, stride, offset, size, &
-        lower, upper, step, processor, place, quota, list, list_bytes) &
-        result(filled) bind(c, name='hpf_fill')
-      import :: c_int64_t, c_size_t, c_ptr, hpf_filled
-      integer(c_int64_t), value :: cells, processors, block, stride, offset, size
-      integer(c_int64_t), value :: lower, upper, step
-      integer(c_int64_t), value :: processor, place, quota
-      type(c_ptr), value :: list
-      integer(c_size_t), value :: list_bytes
-      type(hpf_filled) :: filled
-    end function hpf_fill
-
-    ! Writes the entries of a sender, 0 to right_processors - 1, and a receiver, 0
-    ! to left_processors - 1: all section positions whose element the sender owns on
-    ! the right and the receiver owns on the left, each once, with the element's
-    ! address on the sender in `sent` and on the receiver in `received`. Their order
-    ! is left open in this edition. Each list has as many elements as the number
-    ! after it says; those after the entries written stay.
-    function hpf_transfers(left_cells, left_processors, left_block, left_stride, left_offset, &
-        left_size, left_lower, left_upper, left_step, right_cells, right_processors, right_block, &
-        right_stride, right_offset, right_size, right_lower, right_upper, right_step, &
-        sender, receiver, positions, positions_entries, sent, sent_entries, &
-        received, received_entries) result(transferred) bind(c, name='hpf_transfers')
-      import :: c_int32_t, c_int64_t, c_size_t, hpf_transferred
-      integer(c_int64_t), value :: left_cells, left_processors, left_block
-      integer(c_int64_t), value :: left_stride, left_offset, left_size
-      integer(c_int64_t), value :: left_lower, left_upper, left_step
-      integer(c_int64_t), value :: right_cells, right_processors, right_block
-      integer(c_int64_t), value :: right_stride, right_offset, right_size
-      integer(c_int64_t), value :: right_lower, right_upper, right_step
-      integer(c_int64_t), value :: sender, receiver
-      integer(c_int32_t), intent(inout) :: positions(*), sent(*), received(*)
-      integer(c_size_t), value :: positions_entries, sent_entries, received_entries
-      type(hpf_transferred) :: transferred
-    end function hpf_transfers
-
-  end interface
-
-contains
+  ! Writes the addresses of a processor's list, from a place on, into a list of
+  ! bytes, 4 to an address, the lowest first. It goes on while the place is not
+  ! the count, the list has an unused entry, and 3 tries or more are left of the
+  ! quota, 3 to 1000000. Bytes after the entries written stay, and so do up to 3
+  ! at the end. The list may be c_null_ptr only if list_bytes is 0.
+  interface hpf_fill
+    procedure plain_fill, typed_fill
+  end interface hpf_fill
 
   ! The same fill into an array of integers, on a machine that stores their lowest
   ! byte first. An array of no elements is a list without entries.
-  function hpf_fill_words(cells, processors, block, stride, offset, size, &
-      lower, upper, step, processor, place, quota, list) result(filled)
-    integer(c_int64_t), intent(in) :: cells, processors, block, stride, offset, size
-    integer(c_int64_t), intent(in) :: lower, upper, step
+  interface hpf_fill_words
+    procedure plain_fill_words, typed_fill_words
+  end interface hpf_fill_words
+
+  ! Writes the entries of a sender, 0 to right_processors - 1, and a receiver, 0
+  ! to left_processors - 1: all section positions whose element the sender owns on
+  ! the right and the receiver owns on the left, each once, with the element's
+  ! address on the sender in `sent` and on the receiver in `received`. Their order
+  ! is left open in this edition. On plain numbers each list has as many elements
+  ! as the number after it says, on mappings all of its own; those after the entries
+  ! written stay.
+  interface hpf_transfers
+    procedure plain_transfers, typed_transfers
+  end interface hpf_transfers
+
+contains
+
+  pure function typed_ownership(m, index) result(owned)
+    type(hpf_mapping), intent(in) :: m
+    integer(c_int64_t), intent(in) :: index
+    type(hpf_owned) :: owned
+    owned = plain_ownership(m%cells, m%processors, m%block, m%stride, m%offset, m%size, &
+      m%array_lower, m%template_lower, index)
+  end function typed_ownership
+
+  pure function typed_going_back(m, processor, address) result(found)
+    type(hpf_mapping), intent(in) :: m
+    integer(c_int64_t), intent(in) :: processor, address
+    type(hpf_found) :: found
+    found = plain_going_back(m%cells, m%processors, m%block, m%stride, m%offset, m%size, &
+      m%array_lower, m%template_lower, processor, address)
+  end function typed_going_back
+
+  pure function typed_local_count(m, processor) result(counted)
+    type(hpf_mapping), intent(in) :: m
+    integer(c_int64_t), intent(in) :: processor
+    type(hpf_counted) :: counted
+    counted = plain_local_count(m%cells, m%processors, m%block, m%stride, m%offset, m%size, &
+      m%array_lower, m%template_lower, processor)
+  end function typed_local_count
+
+  pure function typed_section_steps(m, t) result(steps)
+    type(hpf_mapping), intent(in) :: m
+    type(hpf_triplet), intent(in) :: t
+    type(hpf_steps) :: steps
+    steps = plain_section_steps(m%cells, m%processors, m%block, m%stride, m%offset, m%size, &
+      m%array_lower, m%template_lower, t%lower, t%upper, t%stride)
+  end function typed_section_steps
+
+  pure function typed_first_place(m, t, processor) result(placed)
+    type(hpf_mapping), intent(in) :: m
+    type(hpf_triplet), intent(in) :: t
+    integer(c_int64_t), intent(in) :: processor
+    type(hpf_placed) :: placed
+    placed = plain_first_place(m%cells, m%processors, m%block, m%stride, m%offset, m%size, &
+      m%array_lower, m%template_lower, t%lower, t%upper, t%stride, processor)
+  end function typed_first_place
+
+  function typed_fill(m, t, processor, place, quota, list, list_bytes) result(filled)
+    type(hpf_mapping), intent(in) :: m
+    type(hpf_triplet), intent(in) :: t
+    integer(c_int64_t), intent(in) :: processor, place, quota
+    type(c_ptr), intent(in) :: list
+    integer(c_size_t), intent(in) :: list_bytes
+    type(hpf_filled) :: filled
+    filled = plain_fill(m%cells, m%processors, m%block, m%stride, m%offset, m%size, &
+      m%array_lower, m%template_lower, t%lower, t%upper, t%stride, processor, place, quota, list, list_bytes)
+  end function typed_fill
+
+  function typed_fill_words(m, t, processor, place, quota, list) result(filled)
+    type(hpf_mapping), intent(in) :: m
+    type(hpf_triplet), intent(in) :: t
     integer(c_int64_t), intent(in) :: processor, place, quota
     integer(c_int32_t), intent(inout), target, contiguous :: list(:)
     type(hpf_filled) :: filled
@@ -258,8 +197,38 @@ contains
     entries = ubound(list, 1, c_size_t)
     start = c_null_ptr
     if (entries > 0) start = c_loc(list)
-    filled = hpf_fill(cells, processors, block, stride, offset, size, &
-      lower, upper, step, processor, place, quota, start, 4 * entries)
-  end function hpf_fill_words
+    filled = typed_fill(m, t, processor, place, quota, start, 4 * entries)
+  end function typed_fill_words
+
+  function plain_fill_words(cells, processors, block, stride, offset, size, &
+      array_lower, template_lower, lower, upper, step, processor, place, quota, list) result(filled)
+    integer(c_int64_t), intent(in) :: cells, processors, block, stride, offset, size
+    integer(c_int64_t), intent(in) :: array_lower, template_lower
+    integer(c_int64_t), intent(in) :: lower, upper, step
+    integer(c_int64_t), intent(in) :: processor, place, quota
+    integer(c_int32_t), intent(inout), target, contiguous :: list(:)
+    type(hpf_filled) :: filled
+    filled = typed_fill_words( &
+      hpf_mapping(cells, processors, block, stride, offset, size, array_lower, template_lower), &
+      hpf_triplet(lower, upper, step), processor, place, quota, list)
+  end function plain_fill_words
+
+  function typed_transfers(left, left_section, right, right_section, sender, receiver, &
+      positions, sent, received) result(transferred)
+    type(hpf_mapping), intent(in) :: left, right
+    type(hpf_triplet), intent(in) :: left_section, right_section
+    integer(c_int64_t), intent(in) :: sender, receiver
+    integer(c_int32_t), intent(inout), contiguous :: positions(:), sent(:), received(:)
+    type(hpf_transferred) :: transferred
+    transferred = plain_transfers( &
+      left%cells, left%processors, left%block, left%stride, left%offset, left%size, &
+      left%array_lower, left%template_lower, &
+      left_section%lower, left_section%upper, left_section%stride, &
+      right%cells, right%processors, right%block, right%stride, right%offset, right%size, &
+      right%array_lower, right%template_lower, &
+      right_section%lower, right_section%upper, right_section%stride, sender, receiver, &
+      positions, size(positions, kind=c_size_t), sent, size(sent, kind=c_size_t), &
+      received, size(received, kind=c_size_t))
+  end function typed_transfers
 
 end module hpfaddr

@@ -3,45 +3,48 @@
  * one-dimensional block-cyclic arrays.
  *
  * A template is a row of cells, dealt to processors in blocks, as CYCLIC(k) of
- * HPF 2.0 says. An array is aligned to the template. A mapping is six numbers:
+ * HPF 2.0 says. An array is aligned to the template. A mapping is eight numbers:
  *
- *   cells       T  cells of the template           1 to 2147483647
- *   processors  p  processors                      1 to 1024
- *   block       k  cells in a block                1 to 65536
- *   stride      a  cells from element to element   1 to 2147483647
- *   offset      b  cell of element 0               0 to 2147483647
- *   size        n  elements of the array           0 to 2147483647
+ *   cells           T   cells of the template         1 to 2147483647
+ *   processors      p   processors                    1 to 1024
+ *   block           k   cells in a block              1 to 65536
+ *   stride          a   cells from index to index     1 to 2147483647
+ *   offset          b   declared cell of index 0      -2147483647 to 2147483647
+ *   size            n   elements of the array         0 to 2147483647
+ *   array_lower     La  first declared index          -2147483647 to 2147483647
+ *   template_lower  Lt  first declared cell           -2147483647 to 2147483647
  *
- * Element i sits on cell a*i + b, and the last element's cell must be below T.
- * An array of no elements has no such duty.
+ * Indices are the declared ones, La to La + n - 1, wherever they go in or come
+ * out. Declared index j sits on declared cell a*j + b, which is cell a*j + b - Lt:
+ * cells, processors, addresses and positions count from 0. The last declared index
+ * and the last declared cell, Lt + T - 1, are at most 2147483647; the first
+ * element's cell is 0 or more, and the last one's below T. An array of no elements
+ * has no last index and no such cells.
  *
- * Cells, elements, processors, addresses and positions count from 0. The owner
- * of cell c is processor (c / k) mod p; its course is c / pk and its column is
- * c mod k. The local address of an element is the number of elements with a
- * lower index and the same owner: each processor's addresses run from 0 to one
- * below its number of elements, without a gap.
+ * The owner of cell c is processor (c / k) mod p; its course is c / pk and its
+ * column is c mod k. The local address of an element is the number of elements
+ * with a lower index and the same owner: each processor's addresses run from 0 to
+ * one below its number of elements, without a gap.
  *
- * A section l:h:s of the array is three more numbers, each from -2147483647 to
- * 2147483647:
+ * A section l:h:s of the array is three more numbers, each within +-2147483647:
  *
- *   lower       l  the element at position 0
+ *   lower       l  the index at position 0
  *   upper       h  no element lies past it; it need not be one itself
- *   step        s  elements from position to position; negative goes down; not 0
+ *   step        s  indices from position to position; negative goes down; not 0
  *
  * It has max(0, (h - l + s) / s) elements, the quotient truncated as in C: its
- * count. Position t holds element l + t*s. If the section has elements, its
- * first and its last must be elements of the array. An empty one has no such
- * duty.
+ * count. Position t holds element l + t*s. The first and the last of them, if there
+ * are any, must be elements of the array.
  *
  * A processor's list is made of the section's elements that it owns, in rising
  * position. A place is the position of one of them, or the count at the end.
  * To fill the whole list, go on from the first place until the count:
  *
- *   int64_t count = hpf_section_steps(..., lower, upper, step).count;
- *   int64_t place = hpf_first_place(..., lower, upper, step, processor).place;
+ *   int64_t count = hpf_section_steps_of(mapping, section).count;
+ *   int64_t place = hpf_first_place_of(mapping, section, processor).place;
  *   while (place != count) {
- *       hpf_filled filled = hpf_fill(..., lower, upper, step, processor, place,
- *                                    HPF_LARGEST_QUOTA, list, list_bytes);
+ *       hpf_filled filled = hpf_fill_of(mapping, section, processor, place,
+ *                                       HPF_LARGEST_QUOTA, list, list_bytes);
  *       use the filled.entries addresses that now begin the list;
  *       place = filled.place;
  *   }
@@ -52,8 +55,7 @@
  * In an assignment left(section) = right(section), of two sections with the same
  * count, the element at each position goes from a sender, its owner on the
  * right, to a receiver, its owner on the left. The positions of one sender and
- * one receiver are the entries of their pair. Over all pairs each position stands
- * in exactly one, once.
+ * one receiver are the entries of their pair; each position is in one pair, once.
  *
  * What is guaranteed:
  * - Every call returns, whatever numbers it is given.
@@ -64,9 +66,8 @@
  * - Fills one after another, from the first place on, give each element of the
  *   processor's list once and in order, whatever their quotas and lists, also
  *   with refused fills between them.
- * - The calls keep no state. A fill writes the list that it is lent, a transfer
- *   its three, and no call touches any other memory of the caller's, so any number
- *   of threads may call them at once, each with lists of its own.
+ * - The calls keep no state, and touch no memory of the caller's but the lists that
+ *   they are lent: any number of threads may call them, each with lists of its own.
  */
 #ifndef HPFADDR_H
 #define HPFADDR_H
@@ -79,12 +80,12 @@ extern "C" {
 #endif
 
 /*
- * The field refusal of an answer. A call asks these questions in rising order,
- * those that concern its arguments, and stops at the first one answered no.
- * hpf_transfers asks 1 to 7 of the left section, then 1 to 7 of the right one, 8
- * of the sender, 8 of the receiver, 12 and 13. The refusal is the number of that
- * question, every other field is 0, but for what 13 adds, and a lent list is left
- * as it was.
+ * The field refusal of an answer. A call asks these questions in this order, those
+ * that concern its arguments, and stops at the first one answered no; 5 has two
+ * halves, with 15 between them. hpf_transfers asks 1 to 7, with 15, of the left
+ * section, then of the right one, 8 of the sender, 8 of the receiver, 12 and 13. The
+ * refusal is the number of that question, every other field is 0, but for what 13
+ * adds, and a lent list is left as it was.
  */
 enum {
     HPF_ACCEPTED = 0,
@@ -92,9 +93,10 @@ enum {
     HPF_REFUSED_PROCESSORS = 2,       /* is processors in its range? */
     HPF_REFUSED_BLOCK = 3,            /* is block in its range? */
     HPF_REFUSED_ALIGNMENT = 4,        /* are stride and offset in their ranges? */
-    HPF_REFUSED_SIZE = 5,             /* is size in its range, and the last element's cell below cells? */
+    HPF_REFUSED_SIZE = 5,             /* is size in its range? after 15: are the elements' cells from 0 to cells - 1? */
+    HPF_REFUSED_BOUNDS = 15,          /* are lower bounds, last index and last declared cell within +-2147483647? */
     HPF_REFUSED_TRIPLET = 6,          /* are lower, upper and step in their ranges, and is step not 0? */
-    HPF_REFUSED_SECTION = 7,          /* are the section's first and last elements, if any, from 0 to size - 1? */
+    HPF_REFUSED_SECTION = 7,          /* are the section's first and last elements, if any, elements of the array? */
     HPF_REFUSED_PROCESSOR_NUMBER = 8, /* is the processor from 0 to processors - 1? */
     HPF_REFUSED_ELEMENT = 9,          /* is there an element of this index, or at this address? */
     HPF_REFUSED_PLACE = 10,           /* is the place the count, or a position whose element the processor owns? */
@@ -104,27 +106,24 @@ enum {
 };
 
 /* The quotas of a fill. A fill goes on only while it has the least of them left. */
-enum {
-    HPF_LEAST_QUOTA = 3,
-    HPF_LARGEST_QUOTA = 1000000
-};
+enum { HPF_LEAST_QUOTA = 3, HPF_LARGEST_QUOTA = 1000000 };
 
 /* Where an element is: its owner and its local address there. */
 typedef struct hpf_owned {
-    int32_t refusal;   /* 0, or 1 to 5, or 9 */
+    int32_t refusal;   /* 0, or 1 to 5, or 9, or 15 */
     int32_t processor; /* 0 to processors - 1 */
     int32_t address;   /* 0 or more, below the processor's number of elements */
 } hpf_owned;
 
 /* Which element is at an address. */
 typedef struct hpf_found {
-    int32_t refusal; /* 0, or 1 to 5, or 8, or 9 */
-    int32_t index;   /* 0 to size - 1 */
+    int32_t refusal; /* 0, or 1 to 5, or 8, or 9, or 15 */
+    int32_t index;   /* array_lower to array_lower + size - 1 */
 } hpf_found;
 
 /* How many elements a processor holds: the storage to allocate there. */
 typedef struct hpf_counted {
-    int32_t refusal;  /* 0, or 1 to 5, or 8 */
+    int32_t refusal;  /* 0, or 1 to 5, or 8, or 15 */
     int32_t elements; /* 0 to size */
 } hpf_counted;
 
@@ -135,15 +134,14 @@ typedef struct hpf_counted {
  *   positive multiple of S that moves the column up by 1 to k - 1 and stays with
  *   the processor, the return step the smallest that moves it down so. The next
  *   element is a processor step away if the column has room for it, else a
- *   return step if that has, else the sum of both: 1, 2 or 3 tries. A section
- *   that goes down takes its steps downwards, and they move the column the other
- *   way.
+ *   return step if that has, else the sum of both: 1, 2 or 3 tries. In a section
+ *   that goes down both lead down, and move the column the other way.
  * - One step, if gcd(S, pk) is k or more. It keeps the column, and costs 1 try.
  * - No step, if the section has one element, which costs 1 try, or none.
  * The fields of steps that there are not are 0.
  */
 typedef struct hpf_steps {
-    int64_t refusal;        /* 0, or 1 to 7 */
+    int64_t refusal;        /* 0, or 1 to 7, or 15 */
     int64_t count;          /* elements of the section, 0 to size */
     int64_t steps;          /* 0, 1 or 2 */
     int64_t cells;          /* processor step, or the one step: a multiple of S */
@@ -156,13 +154,13 @@ typedef struct hpf_steps {
 
 /* Where a processor's list begins. */
 typedef struct hpf_placed {
-    int32_t refusal; /* 0, or 1 to 8 */
+    int32_t refusal; /* 0, or 1 to 8, or 15 */
     int32_t place;   /* the lowest position whose element it owns, or the count if none */
 } hpf_placed;
 
 /* What a fill did. */
 typedef struct hpf_filled {
-    int32_t refusal; /* 0, or 1 to 8, or 10, or 11 */
+    int32_t refusal; /* 0, or 1 to 8, or 10, or 11, or 15 */
     int32_t entries; /* addresses written, from the list's start on */
     int32_t tries;   /* paid for them, 0 to the quota */
     int32_t place;   /* where the next fill goes on, or the count at the end */
@@ -170,39 +168,32 @@ typedef struct hpf_filled {
 
 /* What a transfer did. */
 typedef struct hpf_transferred {
-    int32_t refusal; /* 0, or 1 to 8, or 12, or 13 */
+    int32_t refusal; /* 0, or 1 to 8, or 12, or 13, or 15 */
     int32_t entries; /* of the pair, written from each list's start on */
     int32_t needed;  /* with refusal 13, how many entries the pair has; else 0 */
 } hpf_transferred;
 
-/* The owner and the local address of the element with this index, 0 to size - 1. */
-hpf_owned hpf_ownership(int64_t cells, int64_t processors, int64_t block,
-                        int64_t stride, int64_t offset, int64_t size,
-                        int64_t index);
+/* The owner and the local address of the element with this declared index. */
+hpf_owned hpf_ownership(int64_t cells, int64_t processors, int64_t block, int64_t stride, int64_t offset, int64_t size,
+                        int64_t array_lower, int64_t template_lower, int64_t index);
 
-/*
- * The element that a processor, 0 to processors - 1, holds at a local address,
- * 0 to one below its number of elements.
- */
-hpf_found hpf_going_back(int64_t cells, int64_t processors, int64_t block,
-                         int64_t stride, int64_t offset, int64_t size,
-                         int64_t processor, int64_t address);
+/* The element that a processor, 0 to processors - 1, holds at a local address. */
+hpf_found hpf_going_back(int64_t cells, int64_t processors, int64_t block, int64_t stride, int64_t offset, int64_t size,
+                         int64_t array_lower, int64_t template_lower, int64_t processor, int64_t address);
 
 /* The number of elements that a processor, 0 to processors - 1, holds. */
-hpf_counted hpf_local_count(int64_t cells, int64_t processors, int64_t block,
-                            int64_t stride, int64_t offset, int64_t size,
-                            int64_t processor);
+hpf_counted hpf_local_count(int64_t cells, int64_t processors, int64_t block, int64_t stride, int64_t offset,
+                            int64_t size, int64_t array_lower, int64_t template_lower, int64_t processor);
 
 /* The count and the steps of a section. */
-hpf_steps hpf_section_steps(int64_t cells, int64_t processors, int64_t block,
-                            int64_t stride, int64_t offset, int64_t size,
+hpf_steps hpf_section_steps(int64_t cells, int64_t processors, int64_t block, int64_t stride, int64_t offset,
+                            int64_t size, int64_t array_lower, int64_t template_lower,
                             int64_t lower, int64_t upper, int64_t step);
 
 /* The place at which the list of a processor, 0 to processors - 1, begins. */
-hpf_placed hpf_first_place(int64_t cells, int64_t processors, int64_t block,
-                           int64_t stride, int64_t offset, int64_t size,
-                           int64_t lower, int64_t upper, int64_t step,
-                           int64_t processor);
+hpf_placed hpf_first_place(int64_t cells, int64_t processors, int64_t block, int64_t stride, int64_t offset,
+                           int64_t size, int64_t array_lower, int64_t template_lower,
+                           int64_t lower, int64_t upper, int64_t step, int64_t processor);
 
 /*
  * Writes the addresses of a processor's list, from a place on, into the list
@@ -210,18 +201,15 @@ hpf_placed hpf_first_place(int64_t cells, int64_t processors, int64_t block,
  * It goes on while the place is not the count, the list has an unused entry, and
  * 3 tries or more are left of the quota, 3 to 1000000.
  *
- * The list is list_bytes bytes, 4 to an address, the lowest byte first; on a
- * machine that stores integers so, it may be an array of int32_t. It may start
- * at any address. Bytes after the entries written stay, and so do up to 3 bytes
- * at the end that are too few for an address. No other thread may use the list
- * meanwhile. The list may be NULL only if list_bytes is 0; then, and if the place
- * is the count, nothing is written and the place stays.
+ * The list is list_bytes bytes at any address, 4 to an entry, the lowest byte
+ * first; on a machine that stores integers so, it may be an array of int32_t. Bytes
+ * after the entries written stay, and so do up to 3 at the end. No other thread may
+ * use the list meanwhile. It may be NULL only if list_bytes is 0; then, and if the
+ * place is the count, nothing is written and the place stays.
  */
-hpf_filled hpf_fill(int64_t cells, int64_t processors, int64_t block,
-                    int64_t stride, int64_t offset, int64_t size,
-                    int64_t lower, int64_t upper, int64_t step,
-                    int64_t processor, int64_t place, int64_t quota,
-                    uint8_t *list, size_t list_bytes);
+hpf_filled hpf_fill(int64_t cells, int64_t processors, int64_t block, int64_t stride, int64_t offset, int64_t size,
+                    int64_t array_lower, int64_t template_lower, int64_t lower, int64_t upper, int64_t step,
+                    int64_t processor, int64_t place, int64_t quota, uint8_t *list, size_t list_bytes);
 
 /*
  * Writes the entries of a sender, 0 to right_processors - 1, and a receiver, 0 to
@@ -229,23 +217,80 @@ hpf_filled hpf_fill(int64_t cells, int64_t processors, int64_t block,
  * right and the receiver owns on the left, each once. Entry i is positions[i],
  * with the element's address on the sender in sent[i] and on the receiver in
  * received[i]. The order of the entries is left open in this edition.
- *
  * Each list is an array of int32_t, aligned as such, with as many elements as the
  * number beside it says; no two of them may overlap. Elements after the entries
  * written stay. No other thread may use the lists meanwhile. A list may be NULL
- * only if its number is 0. To learn how many entries there are, lend no lists: the
+ * only if its number is 0. Lend no lists to learn how many entries there are: the
  * answer is refusal 0 if there are none, else 13 and the number needed.
  */
 hpf_transferred hpf_transfers(int64_t left_cells, int64_t left_processors, int64_t left_block,
-                              int64_t left_stride, int64_t left_offset, int64_t left_size,
-                              int64_t left_lower, int64_t left_upper, int64_t left_step,
+                              int64_t left_stride, int64_t left_offset, int64_t left_size, int64_t left_array_lower,
+                              int64_t left_template_lower, int64_t left_lower, int64_t left_upper, int64_t left_step,
                               int64_t right_cells, int64_t right_processors, int64_t right_block,
                               int64_t right_stride, int64_t right_offset, int64_t right_size,
-                              int64_t right_lower, int64_t right_upper, int64_t right_step,
-                              int64_t sender, int64_t receiver,
+                              int64_t right_array_lower, int64_t right_template_lower, int64_t right_lower,
+                              int64_t right_upper, int64_t right_step, int64_t sender, int64_t receiver,
                               int32_t *positions, size_t positions_entries,
-                              int32_t *sent, size_t sent_entries,
-                              int32_t *received, size_t received_entries);
+                              int32_t *sent, size_t sent_entries, int32_t *received, size_t received_entries);
+
+/*
+ * The same calls on a mapping and a section as one thing each. Every number has its
+ * name (a section's step is its stride), and bounds that are left out are 0, as in
+ * (hpf_mapping){.cells = 96, .processors = 3, .block = 4, .stride = 1, .size = 96}.
+ */
+typedef struct hpf_mapping {
+    int64_t cells, processors, block, stride, offset, size, array_lower, template_lower;
+} hpf_mapping;
+
+typedef struct hpf_triplet {
+    int64_t lower, upper, stride;
+} hpf_triplet;
+
+/* Their numbers in the order of the calls' arguments. */
+#define HPF_MAPPING_NUMBERS(m) \
+    (m).cells, (m).processors, (m).block, (m).stride, (m).offset, (m).size, (m).array_lower, (m).template_lower
+#define HPF_SECTION_NUMBERS(m, t) HPF_MAPPING_NUMBERS(m), (t).lower, (t).upper, (t).stride
+
+static inline hpf_owned hpf_ownership_of(hpf_mapping m, int64_t index)
+{
+    return hpf_ownership(HPF_MAPPING_NUMBERS(m), index);
+}
+
+static inline hpf_found hpf_going_back_of(hpf_mapping m, int64_t processor, int64_t address)
+{
+    return hpf_going_back(HPF_MAPPING_NUMBERS(m), processor, address);
+}
+
+static inline hpf_counted hpf_local_count_of(hpf_mapping m, int64_t processor)
+{
+    return hpf_local_count(HPF_MAPPING_NUMBERS(m), processor);
+}
+
+static inline hpf_steps hpf_section_steps_of(hpf_mapping m, hpf_triplet t)
+{
+    return hpf_section_steps(HPF_SECTION_NUMBERS(m, t));
+}
+
+static inline hpf_placed hpf_first_place_of(hpf_mapping m, hpf_triplet t, int64_t processor)
+{
+    return hpf_first_place(HPF_SECTION_NUMBERS(m, t), processor);
+}
+
+static inline hpf_filled hpf_fill_of(hpf_mapping m, hpf_triplet t, int64_t processor, int64_t place, int64_t quota,
+                                     uint8_t *list, size_t list_bytes)
+{
+    return hpf_fill(HPF_SECTION_NUMBERS(m, t), processor, place, quota, list, list_bytes);
+}
+
+static inline hpf_transferred hpf_transfers_of(hpf_mapping left, hpf_triplet left_section,
+                                               hpf_mapping right, hpf_triplet right_section,
+                                               int64_t sender, int64_t receiver,
+                                               int32_t *positions, size_t positions_entries, int32_t *sent,
+                                               size_t sent_entries, int32_t *received, size_t received_entries)
+{
+    return hpf_transfers(HPF_SECTION_NUMBERS(left, left_section), HPF_SECTION_NUMBERS(right, right_section), sender,
+                         receiver, positions, positions_entries, sent, sent_entries, received, received_entries);
+}
 
 #ifdef __cplusplus
 }

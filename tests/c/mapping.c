@@ -1,42 +1,52 @@
-/* Prints owners, addresses, counts and refusals, as a C program sees them. */
+/* Prints owners, addresses, counts and refusals, as a C program sees them, by both forms of each call. */
 #include <inttypes.h>
 #include <stddef.h>
 #include <stdint.h>
 #include <stdio.h>
 
 #include "hpfaddr.h"
+#include "same.h"
 
-typedef struct mapping {
-    int64_t cells, processors, block, stride, offset, size;
-} mapping;
-
-static hpf_owned ownership(mapping m, int64_t index)
+static hpf_owned ownership(hpf_mapping m, int64_t index)
 {
-    return hpf_ownership(m.cells, m.processors, m.block, m.stride, m.offset, m.size, index);
+    hpf_owned typed = hpf_ownership_of(m, index);
+    hpf_owned plain = hpf_ownership(m.cells, m.processors, m.block, m.stride, m.offset, m.size, m.array_lower,
+                                    m.template_lower, index);
+    expect_same(&plain, &typed, sizeof plain);
+    return plain;
 }
 
-static hpf_found going_back(mapping m, int64_t processor, int64_t address)
+static hpf_found going_back(hpf_mapping m, int64_t processor, int64_t address)
 {
-    return hpf_going_back(m.cells, m.processors, m.block, m.stride, m.offset, m.size, processor, address);
+    hpf_found typed = hpf_going_back_of(m, processor, address);
+    hpf_found plain = hpf_going_back(m.cells, m.processors, m.block, m.stride, m.offset, m.size, m.array_lower,
+                                     m.template_lower, processor, address);
+    expect_same(&plain, &typed, sizeof plain);
+    return plain;
 }
 
-static hpf_counted local_count(mapping m, int64_t processor)
+static hpf_counted local_count(hpf_mapping m, int64_t processor)
 {
-    return hpf_local_count(m.cells, m.processors, m.block, m.stride, m.offset, m.size, processor);
+    hpf_counted typed = hpf_local_count_of(m, processor);
+    hpf_counted plain = hpf_local_count(m.cells, m.processors, m.block, m.stride, m.offset, m.size, m.array_lower,
+                                        m.template_lower, processor);
+    expect_same(&plain, &typed, sizeof plain);
+    return plain;
 }
 
-static void print_mapping(mapping m)
+static void print_mapping(hpf_mapping m)
 {
-    printf("T %" PRId64 ", p %" PRId64 ", k %" PRId64 ", a %" PRId64 ", b %" PRId64 ", n %" PRId64 "\n",
-           m.cells, m.processors, m.block, m.stride, m.offset, m.size);
+    printf("T %" PRId64 ", p %" PRId64 ", k %" PRId64 ", a %" PRId64 ", b %" PRId64 ", n %" PRId64 ", La %" PRId64
+           ", Lt %" PRId64 "\n", m.cells, m.processors, m.block, m.stride, m.offset, m.size, m.array_lower,
+           m.template_lower);
 }
 
 /* The addresses of every so many elements, processor by processor. */
-static void print_addresses(mapping m, int64_t every)
+static void print_addresses(hpf_mapping m, int64_t every)
 {
     for (int64_t processor = 0; processor < m.processors; processor++) {
         printf("addresses on %" PRId64 ":", processor);
-        for (int64_t index = 0; index < m.size; index += every) {
+        for (int64_t index = m.array_lower; index < m.array_lower + m.size; index += every) {
             hpf_owned owned = ownership(m, index);
             if (owned.refusal == HPF_ACCEPTED && owned.processor == processor)
                 printf(" %" PRId32, owned.address);
@@ -45,7 +55,7 @@ static void print_addresses(mapping m, int64_t every)
     }
 }
 
-static void print_counts(mapping m)
+static void print_counts(hpf_mapping m)
 {
     printf("elements:");
     for (int64_t processor = 0; processor < m.processors; processor++)
@@ -54,7 +64,7 @@ static void print_counts(mapping m)
 }
 
 /* One line for an element there and back. */
-static void print_there_and_back(mapping m, int64_t index)
+static void print_there_and_back(hpf_mapping m, int64_t index)
 {
     hpf_owned owned = ownership(m, index);
     hpf_found found = going_back(m, owned.processor, owned.address);
@@ -62,14 +72,14 @@ static void print_there_and_back(mapping m, int64_t index)
            index, owned.processor, owned.address, found.index);
 }
 
-static void print_array(mapping m, int64_t every)
+static void print_array(hpf_mapping m, int64_t every)
 {
     print_mapping(m);
     print_addresses(m, every);
     print_counts(m);
-    for (int64_t index = 0; index < m.size; index += 10)
+    for (int64_t index = m.array_lower; index < m.array_lower + m.size; index += 10)
         print_there_and_back(m, index);
-    print_there_and_back(m, m.size - 1);
+    print_there_and_back(m, m.array_lower + m.size - 1);
 }
 
 static void print_owned(const char *fault, hpf_owned owned)
@@ -89,17 +99,24 @@ static void print_counted(const char *fault, hpf_counted counted)
 
 static void print_refusals(void)
 {
-    const int64_t least = INT64_MIN;
-    print_owned("no cells", hpf_ownership(0, 3, 4, 1, 0, 96, 7));
-    print_owned("1025 processors", hpf_ownership(96, 1025, 4, 1, 0, 96, 7));
-    print_owned("block of 65537", hpf_ownership(96, 3, 65537, 1, 0, 96, 7));
-    print_owned("offset -1", hpf_ownership(96, 3, 4, 1, -1, 96, 7));
-    print_owned("97 elements", hpf_ownership(96, 3, 4, 1, 0, 97, 7));
-    print_owned("index 96", hpf_ownership(96, 3, 4, 1, 0, 96, 96));
-    print_found("processor 3", hpf_going_back(96, 3, 4, 1, 0, 96, 3, 0));
-    print_found("address 32", hpf_going_back(96, 3, 4, 1, 0, 96, 0, 32));
-    print_counted("processor -1", hpf_local_count(96, 3, 4, 1, 0, 96, -1));
-    print_counted("all at fault", hpf_local_count(least, least, least, least, least, least, least));
+    const int64_t least = INT64_MIN, past = 2147483648;
+    print_owned("no cells", ownership((hpf_mapping){0, 3, 4, 1, 0, 96, 0, 0}, 7));
+    print_owned("1025 processors", ownership((hpf_mapping){96, 1025, 4, 1, 0, 96, 0, 0}, 7));
+    print_owned("block of 65537", ownership((hpf_mapping){96, 3, 65537, 1, 0, 96, 0, 0}, 7));
+    print_owned("offset -2147483648", ownership((hpf_mapping){96, 3, 4, 1, -past, 96, 0, 0}, 7));
+    print_owned("-1 elements", ownership((hpf_mapping){96, 3, 4, 1, 0, -1, past, 0}, 7));
+    print_owned("lower bound 2147483648", ownership((hpf_mapping){96, 3, 4, 1, 0, 0, past, 0}, 7));
+    print_owned("last index 2147483648", ownership((hpf_mapping){96, 3, 4, 1, 0, 2, past - 1, 0}, 7));
+    print_owned("last declared cell 2147483648", ownership((hpf_mapping){96, 3, 4, 1, 0, 0, 0, past - 95}, 7));
+    print_owned("offset -1", ownership((hpf_mapping){96, 3, 4, 1, -1, 96, 0, 0}, 7));
+    print_owned("97 elements", ownership((hpf_mapping){96, 3, 4, 1, 0, 97, 0, 0}, 7));
+    print_owned("index 96", ownership((hpf_mapping){96, 3, 4, 1, 0, 96, 0, 0}, 96));
+    print_owned("index 0 of 1 to 100", ownership((hpf_mapping){200, 4, 5, 2, -2, 100, 1, 0}, 0));
+    print_found("processor 3", going_back((hpf_mapping){96, 3, 4, 1, 0, 96, 0, 0}, 3, 0));
+    print_found("address 32", going_back((hpf_mapping){96, 3, 4, 1, 0, 96, 0, 0}, 0, 32));
+    print_counted("processor -1", local_count((hpf_mapping){96, 3, 4, 1, 0, 96, 0, 0}, -1));
+    print_counted("all at fault",
+                  local_count((hpf_mapping){least, least, least, least, least, least, least, least}, least));
 }
 
 /* Each refusal by its name. */
@@ -112,6 +129,7 @@ static void print_names(void)
         {"block", HPF_REFUSED_BLOCK},
         {"alignment", HPF_REFUSED_ALIGNMENT},
         {"size", HPF_REFUSED_SIZE},
+        {"bounds", HPF_REFUSED_BOUNDS},
         {"processor number", HPF_REFUSED_PROCESSOR_NUMBER},
         {"element", HPF_REFUSED_ELEMENT},
     };
@@ -121,11 +139,16 @@ static void print_names(void)
 
 int main(void)
 {
-    const mapping dense = {96, 3, 4, 1, 0, 96};
-    const mapping every_third_cell = {144, 4, 4, 3, 0, 48};
-    const mapping largest = {2147483647, 1024, 65536, 1, 0, 2147483647};
+    const hpf_mapping dense = {.cells = 96, .processors = 3, .block = 4, .stride = 1, .size = 96};
+    const hpf_mapping every_third_cell = {.cells = 144, .processors = 4, .block = 4, .stride = 3, .size = 48};
+    /* A(1:100) aligned with T(2*j-2), and A(-3:20) with T(2*j+1) of a template from -5 on. */
+    const hpf_mapping from_one = {200, 4, 5, 2, -2, 100, 1, 0};
+    const hpf_mapping from_minus_three = {47, 3, 4, 2, 1, 24, -3, -5};
+    const hpf_mapping largest = {2147483647, 1024, 65536, 1, 0, 2147483647, 0, 0};
     print_array(dense, 7);
     print_array(every_third_cell, 3);
+    print_array(from_one, 7);
+    print_array(from_minus_three, 2);
     print_mapping(largest);
     print_there_and_back(largest, 2147483646);
     print_refusals();

@@ -25,7 +25,7 @@ impl Owned {
 }
 
 impl Found {
-    pub fn element(index: u64) -> Found {
+    pub fn element(index: i64) -> Found {
         Found {
             refusal: 0,
             index: index as i32,
@@ -54,25 +54,32 @@ impl Counted {
 }
 
 impl Mapping {
-    /// The array of a mapping that questions 1 to 5 accept.
+    /// The cell of the first element, if there is one.
+    pub fn first_cell(&self) -> i64 {
+        self.stride * self.array_lower + self.offset - self.template_lower
+    }
+
+    /// The array of a mapping that questions 1 to 5, with 15, accept.
     pub fn array(&self) -> Array {
         Array {
             processors: self.processors as u64,
             block: self.block as u64,
             stride: self.stride as u64,
-            offset: self.offset as u64,
+            offset: self.offset,
             size: self.size as u64,
+            array_lower: self.array_lower,
+            template_lower: self.template_lower,
         }
     }
 }
 
 pub fn ownership(m: &Mapping, index: i64) -> Owned {
     let refusal = match questions::of_mapping(m) {
-        0 => questions::of_element(m.size, index),
+        0 => questions::of_index(m, index),
         refusal => refusal,
     };
     match refusal {
-        0 => Owned::at(Counting::cheapest(m.array()).place(index as u64)),
+        0 => Owned::at(Counting::cheapest(m.array()).place(index)),
         refusal => Owned::refused(refusal),
     }
 }
@@ -100,7 +107,7 @@ fn of_mapping_and_processor(m: &Mapping, processor: i64) -> i32 {
 
 fn at_address(m: &Mapping, processor: u64, address: i64) -> Found {
     let counting = Counting::cheapest(m.array());
-    match questions::of_element(counting.held(processor) as i64, address) {
+    match questions::of_address(counting.held(processor), address) {
         0 => Found::element(counting.element(Place {
             processor,
             address: address as u64,

@@ -37,7 +37,7 @@ impl Counting {
     }
 
     /// How many elements of index below `end` the processor holds.
-    pub fn below(&self, end: u64, processor: u64) -> u64 {
+    pub fn below(&self, end: i64, processor: u64) -> u64 {
         match self.way {
             Way::Elements => count_elements(&self.array, end, processor),
             Way::Courses => count_courses(&self.array, end, processor),
@@ -46,10 +46,10 @@ impl Counting {
     }
 
     pub fn held(&self, processor: u64) -> u64 {
-        self.below(self.array.size, processor)
+        self.below(self.array.indices().end, processor)
     }
 
-    pub fn place(&self, index: u64) -> Place {
+    pub fn place(&self, index: i64) -> Place {
         let processor = self.array.owner(index);
         let address = self.below(index, processor);
         Place { processor, address }
@@ -57,10 +57,11 @@ impl Counting {
 
     /// The element at an address below the processor's number of elements: the
     /// first one that makes the count exceed the address.
-    pub fn element(&self, place: Place) -> u64 {
-        let (mut low, mut high) = (0, self.array.size - 1);
+    pub fn element(&self, place: Place) -> i64 {
+        let indices = self.array.indices();
+        let (mut low, mut high) = (indices.start, indices.end - 1);
         while low < high {
-            let middle = (low + high) / 2;
+            let middle = low + (high - low) / 2;
             if self.below(middle + 1, place.processor) > place.address {
                 high = middle;
             } else {
@@ -70,11 +71,12 @@ impl Counting {
         low
     }
 
-    fn count_periods(&self, end: u64, processor: u64) -> u64 {
+    fn count_periods(&self, end: i64, processor: u64) -> u64 {
         let period = self.owners.len() as u64;
-        let rest = (end % period) as usize;
+        let elements = (end - self.array.array_lower) as u64;
+        let rest = (elements % period) as usize;
         let in_rest = count_equal(&self.owners[..rest], processor);
-        match end / period {
+        match elements / period {
             0 => in_rest,
             whole => whole * count_equal(&self.owners, processor) + in_rest,
         }
@@ -94,16 +96,16 @@ pub fn course(array: &Array) -> u64 {
     array.processors * array.block
 }
 
-fn count_elements(array: &Array, end: u64, processor: u64) -> u64 {
-    let owned = |&index: &u64| array.owner(index) == processor;
-    (0..end).filter(owned).count() as u64
+fn count_elements(array: &Array, end: i64, processor: u64) -> u64 {
+    let owned = |&index: &i64| array.owner(index) == processor;
+    (array.array_lower..end).filter(owned).count() as u64
 }
 
 /// In one course a processor has one run of cells, so its elements there are
 /// those below the run's end less those below its start.
-fn count_courses(array: &Array, end: u64, processor: u64) -> u64 {
+fn count_courses(array: &Array, end: i64, processor: u64) -> u64 {
     let course = course(array);
-    let first = array.offset / course;
+    let first = array.cell(array.array_lower) / course;
     let last = array.cell(end) / course;
     let start_in_course = processor * array.block;
     (first..=last)
@@ -114,10 +116,12 @@ fn count_courses(array: &Array, end: u64, processor: u64) -> u64 {
         .sum()
 }
 
-/// How many of the first `end` elements sit on cells below `cell`.
-fn elements_below(array: &Array, end: u64, cell: u64) -> u64 {
-    let cells = cell.saturating_sub(array.offset);
-    cells.div_ceil(array.stride).min(end)
+/// How many of the elements of index below `end` sit on cells below `cell`: j does
+/// if a·j is below the declared cell less b.
+fn elements_below(array: &Array, end: i64, cell: u64) -> u64 {
+    let bound = cell as i64 + array.template_lower - array.offset;
+    let first_past = -(-bound).div_euclid(array.stride as i64);
+    (first_past.clamp(array.array_lower, end) - array.array_lower) as u64
 }
 
 /// After this many elements the cells have moved by whole courses, and the
@@ -127,7 +131,8 @@ fn period(array: &Array) -> u64 {
 }
 
 fn owners_of_period(array: &Array) -> Vec<u16> {
-    (0..period(array))
+    (array.array_lower..)
+        .take(period(array) as usize)
         .map(|index| array.owner(index) as u16)
         .collect()
 }

@@ -9,6 +9,7 @@ use crate::fill_chains::Chains;
 use crate::library::Mapping;
 use crate::memory::Memory;
 use crate::processor_list::{Entry, List};
+use crate::random_bounds::{with_bounds, with_random_bounds};
 use crate::random_sections::compare_section;
 use crate::section_comparison::Filling;
 use crate::section_enumeration::Section;
@@ -29,7 +30,7 @@ const MACHINES: [(i64, i64); 9] = [
     (1_024, 65_536),
 ];
 
-/// Stride and offset.
+/// Stride and first cell.
 const ALIGNMENTS: [(i64, i64); 9] = [
     (1, 0),
     (1, 5),
@@ -46,7 +47,7 @@ const ALIGNMENTS: [(i64, i64); 9] = [
 const MOST_ENTRIES: usize = 40;
 const LONGEST_LIST: u64 = 40;
 
-/// One-element sections: stride, upper bound and step.
+/// One-element sections of the element 0: stride, upper bound and step.
 const LONE_ELEMENTS: [[i64; 3]; 5] = [
     [LARGEST, 0, LARGEST],
     [LARGEST, LARGEST - 1, LARGEST],
@@ -65,18 +66,34 @@ const LONE_ENTRY: Entry = Entry {
 const SHORT_LIST: Range<usize> = 8..16;
 
 /// Mapping, section and processor of lists that are too long for most quotas.
-const LONG_SECTIONS: [([i64; 6], [i64; 3], i64); 6] = [
-    ([3_000_000, 1, 1, 1, 0, 3_000_000], [0, 2_999_999, 1], 0),
-    ([9_000_000, 1, 7, 3, 2, 3_000_000], [2_999_999, 0, -1], 0),
-    ([9_000_000, 2, 5, 3, 1, 3_000_000], [0, 2_999_999, 1], 1),
-    ([3_000_000, 3, 64, 1, 0, 3_000_000], [2_999_999, 0, -1], 2),
+const LONG_SECTIONS: [([i64; 8], [i64; 3], i64); 6] = [
     (
-        [9_000_000, 1, 65_536, 3, 2, 3_000_000],
-        [0, 2_999_999, 5],
+        [3_000_000, 1, 1, 1, 0, 3_000_000, 0, 0],
+        [0, 2_999_999, 1],
         0,
     ),
     (
-        [15_000_000, 2, 65_535, 5, 4, 3_000_000],
+        [9_000_000, 1, 7, 3, 2, 3_000_000, 0, 0],
+        [2_999_999, 0, -1],
+        0,
+    ),
+    (
+        [9_000_000, 2, 5, 3, 1, 3_000_000, 0, 0],
+        [0, 2_999_999, 1],
+        1,
+    ),
+    (
+        [3_000_000, 3, 64, 1, -1, 3_000_000, 1, 0],
+        [3_000_000, 1, -1],
+        2,
+    ),
+    (
+        [9_000_000, 1, 65_536, 3, 8, 3_000_000, -7, -15],
+        [-7, 2_999_992, 5],
+        0,
+    ),
+    (
+        [15_000_000, 2, 65_535, 5, 4, 3_000_000, 0, 0],
         [2_999_999, 0, -3],
         1,
     ),
@@ -91,9 +108,10 @@ pub fn compare_machines(comparison: &mut Comparison) -> Result<String, Differenc
     let mut chains = Chains::new(comparison, 6, LONGEST_LIST);
     let mut sections = 0;
     for (processors, block) in MACHINES {
-        for (stride, offset) in ALIGNMENTS {
-            let size = (LARGEST - 1 - offset) / stride + 1;
-            let m = Mapping::of([LARGEST, processors, block, stride, offset, size]);
+        for (stride, first_cell) in ALIGNMENTS {
+            let size = (LARGEST - 1 - first_cell) / stride + 1;
+            let m = Mapping::of([LARGEST, processors, block, stride, first_cell, size, 0, 0]);
+            let m = with_random_bounds(&mut chains.generator, &m);
             for triplet in whole_sections(&m) {
                 compare_section(&mut chains, &m, triplet, MOST_ENTRIES)?;
                 sections += 1;
@@ -109,14 +127,15 @@ pub fn compare_machines(comparison: &mut Comparison) -> Result<String, Differenc
 /// From one end of the array to the other, both ways, at distances next to
 /// blocks, courses, and the largest that leaves two elements.
 fn whole_sections(m: &Mapping) -> Vec<Triplet> {
-    let (block, course, last) = (m.block, m.processors * m.block, m.size - 1);
+    let (block, course) = (m.block, m.processors * m.block);
+    let (first, last) = (m.array_lower, m.array_lower + m.size - 1);
     let near = [block, course / 2, course, 2 * course, LARGEST / 2, LARGEST];
     let lengths = near
         .iter()
         .flat_map(|distance| [distance - 1, *distance, distance + 1])
-        .map(|distance| (distance / m.stride).clamp(1, last));
+        .map(|distance| (distance / m.stride).clamp(1, m.size - 1));
     lengths
-        .flat_map(|length| [[0, last, length], [last, 0, -length]])
+        .flat_map(|length| [[first, last, length], [last, first, -length]])
         .map(Triplet::of)
         .collect()
 }
@@ -125,9 +144,13 @@ fn whole_sections(m: &Mapping) -> Vec<Triplet> {
 pub fn compare_lone_elements(comparison: &mut Comparison) -> Result<String, Difference> {
     for (processors, block) in MACHINES {
         for [stride, upper, step] in LONE_ELEMENTS {
-            for offset in [0, 70_000, LARGEST - 1] {
-                let m = Mapping::of([LARGEST, processors, block, stride, offset, 1]);
-                compare_lone_element(comparison, &m, &Triplet::of([0, upper, step]))?;
+            for cell in [0, 70_000, LARGEST - 1] {
+                let m = Mapping::of([LARGEST, processors, block, stride, cell, 1, 0, 0]);
+                for (lower, template_lower) in [(0, 0), (1, 1), (-1, -cell)] {
+                    let m = with_bounds(&m, lower, template_lower);
+                    let triplet = Triplet::of([lower, upper + lower, step]);
+                    compare_lone_element(comparison, &m, &triplet)?;
+                }
             }
         }
     }
@@ -140,7 +163,7 @@ fn compare_lone_element(comparison: &mut Comparison, m: &Mapping, triplet: &Trip
         ..Steps::refused(0)
     };
     comparison.section_steps(m, triplet, count_alone)?;
-    let owner = m.array().owner(0) as i64;
+    let owner = m.array().owner(m.array_lower) as i64;
     for processor in 0..m.processors {
         let (place, entries): (u64, &[Entry]) = if processor == owner {
             (0, &[LONE_ENTRY])
@@ -190,7 +213,7 @@ pub fn compare_quotas(comparison: &mut Comparison) -> Result<String, Difference>
 fn whole_list(fill: &Fill) -> List {
     let array = fill.m.array();
     let section = Section::new(array, fill.triplet);
-    section.list(fill.processor as u64, &enumerate(&array).places)
+    section.list(fill.processor as u64, &enumerate(&array))
 }
 
 /// Compares one fill after the entries taken, and says how many it takes.

@@ -2,6 +2,7 @@
 //! others that are at fault.
 
 use crate::generator::Generator;
+use crate::library::Mapping;
 use crate::section_enumeration::{count, element};
 use crate::section_library::{Fill, Triplet};
 
@@ -11,13 +12,15 @@ const MOST_FAULTS: u64 = 3;
 /// Exchanges a number of a fill for one that is at fault in the lawful fill.
 type Fault = fn(&mut Generator, &Fill, &mut Fill);
 
-/// A fault for each question of a fill.
-const FAULTS: [Fault; 10] = [
+/// A fault for each question of a fill, and for each half of 5.
+const FAULTS: [Fault; 12] = [
     |generator, _, fill| fill.m.cells = outside(generator, 1, LARGEST),
     |generator, _, fill| fill.m.processors = outside(generator, 1, 1_024),
     |generator, _, fill| fill.m.block = outside(generator, 1, 65_536),
     spoil_alignment,
     spoil_size,
+    spoil_bounds,
+    spoil_first_cell,
     spoil_triplet,
     spoil_elements,
     |generator, lawful, fill| fill.processor = outside(generator, 0, lawful.m.processors - 1),
@@ -51,7 +54,7 @@ fn outside(generator: &mut Generator, low: i64, high: i64) -> i64 {
 fn spoil_alignment(generator: &mut Generator, _: &Fill, fill: &mut Fill) {
     match generator.below(2) {
         0 => fill.m.stride = outside(generator, 1, LARGEST),
-        _ => fill.m.offset = outside(generator, 0, LARGEST),
+        _ => fill.m.offset = outside(generator, -LARGEST, LARGEST),
     }
 }
 
@@ -60,8 +63,29 @@ fn spoil_size(generator: &mut Generator, lawful: &Fill, fill: &mut Fill) {
     let m = &lawful.m;
     fill.m.size = match generator.below(2) {
         0 => outside(generator, 0, LARGEST),
-        _ => (m.cells - 1 - m.offset) / m.stride + 2,
+        _ => (m.cells - 1 - m.first_cell()) / m.stride + 2,
     };
+}
+
+/// A bound out of range, or the first that takes the last index or the last
+/// declared cell out of it.
+fn spoil_bounds(generator: &mut Generator, lawful: &Fill, fill: &mut Fill) {
+    let Mapping { cells, size, .. } = lawful.m;
+    match generator.below(4) {
+        0 => fill.m.array_lower = outside(generator, -LARGEST, LARGEST),
+        1 => fill.m.template_lower = outside(generator, -LARGEST, LARGEST),
+        2 => fill.m.array_lower = LARGEST - size + 2,
+        _ => fill.m.template_lower = LARGEST - cells + 2,
+    }
+}
+
+/// The first element sits on the cell before cell 0.
+fn spoil_first_cell(generator: &mut Generator, lawful: &Fill, fill: &mut Fill) {
+    let too_far = lawful.m.first_cell() + 1;
+    match generator.below(2) {
+        0 => fill.m.offset = lawful.m.offset - too_far,
+        _ => fill.m.template_lower = lawful.m.template_lower + too_far,
+    }
 }
 
 fn spoil_triplet(generator: &mut Generator, _: &Fill, fill: &mut Fill) {
@@ -77,7 +101,11 @@ fn spoil_triplet(generator: &mut Generator, _: &Fill, fill: &mut Fill) {
 /// first beyond it.
 fn spoil_elements(generator: &mut Generator, lawful: &Fill, fill: &mut Fill) {
     let Triplet { lower, step, .. } = lawful.triplet;
-    let beside = [-1, lawful.m.size][generator.below(2) as usize];
+    let (before, after) = (
+        lawful.m.array_lower - 1,
+        lawful.m.array_lower + lawful.m.size,
+    );
+    let beside = [before, after][generator.below(2) as usize];
     if count(&lawful.triplet) == 0 || generator.below(2) == 0 {
         fill.triplet = Triplet {
             lower: beside,
@@ -85,7 +113,7 @@ fn spoil_elements(generator: &mut Generator, lawful: &Fill, fill: &mut Fill) {
             step,
         };
     } else {
-        let end = if step > 0 { lawful.m.size } else { -1 };
+        let end = if step > 0 { after } else { before };
         fill.triplet = Triplet {
             lower,
             upper: end + step - step.signum(),

@@ -22,7 +22,7 @@ pub struct Chains<'a> {
     /// Entries of the longest list that is lent.
     longest_list: u64,
     accepted: u64,
-    refused: [u64; 12],
+    refused: [u64; 16],
 }
 
 /// What the caller of a chain keeps, and what was got so far.
@@ -42,7 +42,7 @@ impl Chains<'_> {
             generator: Generator::new(seed),
             longest_list,
             accepted: 0,
-            refused: [0; 12],
+            refused: [0; 16],
         }
     }
 
@@ -50,7 +50,7 @@ impl Chains<'_> {
     pub fn words(&self) -> String {
         let accepted = self.accepted;
         let refused: u64 = self.refused.iter().sum();
-        let kinds = [1, 2, 3, 4, 5, 6, 7, 8, 10, 11].map(|kind| self.refused[kind]);
+        let kinds = [1, 2, 3, 4, 5, 6, 7, 8, 10, 11, 15].map(|kind| self.refused[kind]);
         let least = kinds.into_iter().min().unwrap_or(0);
         format!("{accepted} fills and {refused} refused ones ({least} or more of each kind)")
     }

@@ -1,7 +1,7 @@
 //! The library's C functions, as safe functions on plain numbers.
 #![allow(unsafe_code)]
 
-/// The six numbers of a mapping. Nothing says that they are in range.
+/// The eight numbers of a mapping. Nothing says that they are in range.
 #[derive(Clone, Copy, Debug)]
 pub struct Mapping {
     pub cells: i64,
@@ -10,12 +10,14 @@ pub struct Mapping {
     pub stride: i64,
     pub offset: i64,
     pub size: i64,
+    pub array_lower: i64,
+    pub template_lower: i64,
 }
 
 impl Mapping {
     /// The numbers in the order of the calls' arguments.
-    pub fn of(numbers: [i64; 6]) -> Mapping {
-        let [cells, processors, block, stride, offset, size] = numbers;
+    pub fn of(numbers: [i64; 8]) -> Mapping {
+        let [cells, processors, block, stride, offset, size, array_lower, template_lower] = numbers;
         Mapping {
             cells,
             processors,
@@ -23,6 +25,8 @@ impl Mapping {
             stride,
             offset,
             size,
+            array_lower,
+            template_lower,
         }
     }
 }
@@ -57,6 +61,8 @@ extern "C" {
         stride: i64,
         offset: i64,
         size: i64,
+        array_lower: i64,
+        template_lower: i64,
         index: i64,
     ) -> Owned;
 
@@ -67,6 +73,8 @@ extern "C" {
         stride: i64,
         offset: i64,
         size: i64,
+        array_lower: i64,
+        template_lower: i64,
         processor: i64,
         address: i64,
     ) -> Found;
@@ -78,6 +86,8 @@ extern "C" {
         stride: i64,
         offset: i64,
         size: i64,
+        array_lower: i64,
+        template_lower: i64,
         processor: i64,
     ) -> Counted;
 }
@@ -92,6 +102,8 @@ pub fn ownership(m: &Mapping, index: i64) -> Owned {
             m.stride,
             m.offset,
             m.size,
+            m.array_lower,
+            m.template_lower,
             index,
         )
     }
@@ -107,6 +119,8 @@ pub fn going_back(m: &Mapping, processor: i64, address: i64) -> Found {
             m.stride,
             m.offset,
             m.size,
+            m.array_lower,
+            m.template_lower,
             processor,
             address,
         )
@@ -123,6 +137,8 @@ pub fn local_count(m: &Mapping, processor: i64) -> Counted {
             m.stride,
             m.offset,
             m.size,
+            m.array_lower,
+            m.template_lower,
             processor,
         )
     }

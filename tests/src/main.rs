@@ -3,6 +3,8 @@
 //! difference. The argument `calls` or `sheets` leaves out the other.
 
 mod answers;
+mod bound_edges;
+mod bounds_as_offset;
 mod checks_by_hand;
 mod comparison;
 mod counting;
@@ -16,6 +18,7 @@ mod library;
 mod memory;
 mod processor_list;
 mod questions;
+mod random_bounds;
 mod random_mappings;
 mod random_sections;
 mod random_transfers;
@@ -26,9 +29,11 @@ mod section_library;
 mod section_search;
 mod sections_by_hand;
 mod sheets;
+mod small_bounds;
 mod small_mappings;
 mod small_sections;
 mod small_transfers;
+mod special_bounds;
 mod special_numbers;
 mod special_sections;
 mod special_transfers;
@@ -45,19 +50,26 @@ use comparison::{Comparison, Difference};
 /// Compares one kind of calls, and says in words which.
 type Group = fn(&mut Comparison) -> Result<String, Difference>;
 
-const CALLS: [Group; 23] = [
+const CALLS: [Group; 30] = [
     checks_by_hand::compare_limits,
+    checks_by_hand::compare_bounds,
     small_mappings::compare_countings,
     small_mappings::compare_arrays,
+    small_mappings::compare_bounds,
     special_numbers::compare_combinations,
     special_numbers::compare_exchanges,
+    special_bounds::compare_mappings,
     random_mappings::compare_fits,
     random_mappings::compare_mappings,
+    bound_edges::compare_edges,
+    bounds_as_offset::compare_mappings,
     sections_by_hand::compare_cases,
     small_sections::compare_searches,
     small_sections::compare_sections,
+    small_sections::compare_bounds,
     special_sections::compare_combinations,
     special_sections::compare_exchanges,
+    special_bounds::compare_sections,
     extreme_sections::compare_lone_elements,
     extreme_sections::compare_quotas,
     extreme_sections::compare_machines,

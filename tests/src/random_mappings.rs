@@ -1,11 +1,12 @@
-//! Random mappings over the full range of each number, at random elements and
-//! processors, compared with the cheapest way of counting.
+//! Random mappings over the full range of each number, bounds too, at random
+//! elements and processors, compared with the cheapest way of counting.
 
 use crate::comparison::{Comparison, Difference, Outcome};
 use crate::counting::Counting;
 use crate::enumeration::Place;
 use crate::generator::Generator;
 use crate::library::{Counted, Found, Mapping, Owned};
+use crate::random_bounds::with_random_bounds;
 
 const MAPPINGS: u32 = 500_000;
 const FITS: u32 = 100_000;
@@ -33,7 +34,7 @@ pub fn compare_fits(comparison: &mut Comparison) -> Result<String, Difference> {
     let mut generator = Generator::new(2);
     for _ in 0..FITS {
         let mut m = random_mapping(&mut generator);
-        m.cells = m.stride * (m.size - 1) + m.offset + 1;
+        m.cells = m.first_cell() + m.stride * (m.size - 1) + 1;
         compare_last_element(comparison, &m)?;
         m.cells -= 1;
         compare_too_short(comparison, &m)?;
@@ -50,17 +51,11 @@ pub fn random_mapping(generator: &mut Generator) -> Mapping {
     let processors = generator.up_to(MOST_PROCESSORS);
     let block = generator.up_to(LARGEST_BLOCK);
     let stride = random_stride(generator, block);
-    let offset = generator.up_to(cells) - 1;
-    let most = (cells - 1 - offset) / stride + 1;
+    let first_cell = generator.up_to(cells) - 1;
+    let most = (cells - 1 - first_cell) / stride + 1;
     let size = generator.up_to(most);
-    Mapping {
-        cells: cells as i64,
-        processors: processors as i64,
-        block: block as i64,
-        stride: stride as i64,
-        offset: offset as i64,
-        size: size as i64,
-    }
+    let numbers = [cells, processors, block, stride, first_cell, size, 0, 0];
+    with_random_bounds(generator, &Mapping::of(numbers.map(|number| number as i64)))
 }
 
 /// Small, of any size, or whole blocks, which leave some processors without elements.
@@ -73,14 +68,15 @@ fn random_stride(generator: &mut Generator, block: u64) -> u64 {
 }
 
 /// The last element, and some others.
-fn random_elements(generator: &mut Generator, m: &Mapping) -> [u64; 3] {
+fn random_elements(generator: &mut Generator, m: &Mapping) -> [i64; 3] {
     let size = m.size as u64;
-    [size - 1, generator.below(size), generator.below(size)]
+    let numbers = [size - 1, generator.below(size), generator.below(size)];
+    numbers.map(|number| m.array_lower + number as i64)
 }
 
-fn compare_element(comparison: &mut Comparison, m: &Mapping, index: u64, place: Place) -> Outcome {
+fn compare_element(comparison: &mut Comparison, m: &Mapping, index: i64, place: Place) -> Outcome {
     let (processor, address) = (place.processor as i64, place.address as i64);
-    comparison.ownership(m, index as i64, Owned::at(place))?;
+    comparison.ownership(m, index, Owned::at(place))?;
     comparison.going_back(m, processor, address, Found::element(index))
 }
 
@@ -97,7 +93,7 @@ fn compare_processor(
 
 /// The last element of all is the last one of its owner.
 fn compare_last_element(comparison: &mut Comparison, m: &Mapping) -> Outcome {
-    let last = m.size as u64 - 1;
+    let last = m.array_lower + m.size - 1;
     let place = Counting::cheapest(m.array()).place(last);
     compare_element(comparison, m, last, place)?;
     compare_processor(comparison, m, place.processor, place.address + 1)
@@ -105,7 +101,7 @@ fn compare_last_element(comparison: &mut Comparison, m: &Mapping) -> Outcome {
 
 fn compare_too_short(comparison: &mut Comparison, m: &Mapping) -> Outcome {
     let refusal = if m.cells == 0 { 1 } else { 5 };
-    comparison.ownership(m, m.size - 1, Owned::refused(refusal))?;
+    comparison.ownership(m, m.array_lower, Owned::refused(refusal))?;
     comparison.going_back(m, 0, 0, Found::refused(refusal))?;
     comparison.local_count(m, 0, Counted::refused(refusal))
 }

@@ -6,6 +6,7 @@ use crate::enumeration::enumerate;
 use crate::fill_chains::Chains;
 use crate::generator::Generator;
 use crate::library::Mapping;
+use crate::random_bounds::with_random_bounds;
 use crate::random_mappings::random_mapping;
 use crate::section_enumeration::Section;
 use crate::section_library::{Fill, Placed, Steps, Triplet};
@@ -50,7 +51,7 @@ pub fn compare_long_chains(comparison: &mut Comparison) -> Result<String, Differ
 fn compare_chains(mut chains: Chains, kind: &Kind) -> Result<String, Difference> {
     for _ in 0..kind.chains {
         let m = random_mapping_of(&mut chains.generator, kind);
-        let triplet = random_triplet(&mut chains.generator, m.size as u64);
+        let triplet = random_triplet(&mut chains.generator, &m);
         compare_whole_list(&mut chains, &m, triplet)?;
     }
     let (number, longest, words) = (kind.chains, kind.longest_list, chains.words());
@@ -63,7 +64,7 @@ pub fn compare_sections(comparison: &mut Comparison) -> Result<String, Differenc
     let mut chains = Chains::new(comparison, 5, LONGEST_LIST);
     for _ in 0..SECTIONS {
         let m = random_mapping(&mut chains.generator);
-        let triplet = random_triplet(&mut chains.generator, m.size as u64);
+        let triplet = random_triplet(&mut chains.generator, &m);
         compare_section(&mut chains, &m, triplet, MOST_ENTRIES)?;
     }
     let words = chains.words();
@@ -77,24 +78,20 @@ fn random_mapping_of(generator: &mut Generator, kind: &Kind) -> Mapping {
         1 => generator.within(1, 20),
         _ => block * generator.within(1, 3),
     };
-    let offset = generator.below(50);
+    let first_cell = generator.below(50);
     let size = generator.up_to(kind.largest_size);
-    let cells = stride * (size - 1) + offset + generator.within(1, 3);
-    Mapping {
-        cells: cells as i64,
-        processors: generator.within(1, 8) as i64,
-        block: block as i64,
-        stride: stride as i64,
-        offset: offset as i64,
-        size: size as i64,
-    }
+    let cells = stride * (size - 1) + first_cell + generator.within(1, 3);
+    let processors = generator.within(1, 8);
+    let numbers = [cells, processors, block, stride, first_cell, size, 0, 0];
+    with_random_bounds(generator, &Mapping::of(numbers.map(|number| number as i64)))
 }
 
 /// An accepted section from one random element towards another. Its upper bound
 /// goes less than a step beyond its last element. Now and then it is empty.
-pub fn random_triplet(generator: &mut Generator, size: u64) -> Triplet {
-    let lower = generator.below(size) as i64;
-    let towards = generator.below(size) as i64;
+pub fn random_triplet(generator: &mut Generator, m: &Mapping) -> Triplet {
+    let size = m.size as u64;
+    let lower = m.array_lower + generator.below(size) as i64;
+    let towards = m.array_lower + generator.below(size) as i64;
     let length = match generator.below(2) {
         0 => generator.within(1, size.min(12)),
         _ => generator.of_any_size(size),
@@ -103,7 +100,7 @@ pub fn random_triplet(generator: &mut Generator, size: u64) -> Triplet {
     if generator.below(20) == 0 {
         return Triplet {
             lower,
-            upper: towards + direction,
+            upper: (towards + direction).clamp(-LARGEST, LARGEST),
             step: -direction * length as i64,
         };
     }
@@ -112,7 +109,7 @@ pub fn random_triplet(generator: &mut Generator, size: u64) -> Triplet {
     let beyond = direction * generator.below(length) as i64;
     Triplet {
         lower,
-        upper: (last + beyond).min(LARGEST),
+        upper: (last + beyond).clamp(-LARGEST, LARGEST),
         step,
     }
 }
@@ -121,7 +118,7 @@ fn compare_whole_list(chains: &mut Chains, m: &Mapping, triplet: Triplet) -> Out
     let array = m.array();
     let section = Section::new(array, triplet);
     let processor = chains.generator.below(array.processors);
-    let list = section.list(processor, &enumerate(&array).places);
+    let list = section.list(processor, &enumerate(&array));
     let first = Placed::at(list.place_after(0));
     chains
         .comparison

@@ -10,6 +10,8 @@ use crate::transfer_comparison::Transferring;
 use crate::transfer_enumeration::{pair, Half};
 use crate::transfer_library::{Side, Transfer};
 
+const LARGEST: i64 = 2_147_483_647;
+
 pub fn compare_short_assignments(comparison: &mut Comparison) -> Result<String, Difference> {
     compare_assignments(comparison, Generator::new(6), 100_000, 60)
 }
@@ -34,7 +36,7 @@ fn compare_assignments(
 }
 
 /// Two sides with sections of the same count.
-fn random_sides(generator: &mut Generator, most_positions: u64) -> [Side; 2] {
+pub fn random_sides(generator: &mut Generator, most_positions: u64) -> [Side; 2] {
     let mappings = [random_mapping(generator), random_mapping(generator)];
     let [left, right] = mappings.map(|m| m.size as u64);
     let count = generator.up_to(left.min(right).min(most_positions));
@@ -55,7 +57,7 @@ fn random_triplet(generator: &mut Generator, m: &Mapping, count: u64) -> Triplet
     };
     let length = generator.up_to(longest);
     let span = (count - 1) * length;
-    let low = generator.below(size - span) as i64;
+    let low = m.array_lower + generator.below(size - span) as i64;
     let high = low + span as i64;
     let beyond = generator.below(length) as i64;
     let (lower, upper, direction) = match generator.below(2) {
@@ -64,7 +66,7 @@ fn random_triplet(generator: &mut Generator, m: &Mapping, count: u64) -> Triplet
     };
     Triplet {
         lower,
-        upper: upper.min(i64::from(i32::MAX)),
+        upper: upper.clamp(-LARGEST, LARGEST),
         step: direction * length as i64,
     }
 }

@@ -2,7 +2,7 @@
 //! definitions.
 
 use crate::counting::{course, gcd};
-use crate::enumeration::{Array, Place};
+use crate::enumeration::{Array, Enumeration};
 use crate::processor_list::{Entry, List};
 use crate::section_library::Triplet;
 
@@ -12,9 +12,9 @@ pub fn count(triplet: &Triplet) -> u64 {
     quotient.max(0) as u64
 }
 
-/// The element at a position below the count.
-pub fn element(triplet: &Triplet, position: u64) -> u64 {
-    (triplet.lower + position as i64 * triplet.step) as u64
+/// The declared index at a position below the count.
+pub fn element(triplet: &Triplet, position: u64) -> i64 {
+    triplet.lower + position as i64 * triplet.step
 }
 
 /// The cells from one position to the next, S.
@@ -108,7 +108,7 @@ impl Section {
         count(&self.triplet)
     }
 
-    pub fn element(&self, position: u64) -> u64 {
+    pub fn element(&self, position: u64) -> i64 {
         element(&self.triplet, position)
     }
 
@@ -122,11 +122,11 @@ impl Section {
 
     /// The elements that the processor owns, in rising position, where each
     /// element of the array has its place.
-    pub fn list(&self, processor: u64, places: &[Place]) -> List {
+    pub fn list(&self, processor: u64, enumeration: &Enumeration) -> List {
         let entries = (0..self.count())
             .filter(|&position| self.owner(position) == processor)
             .map(|position| {
-                let address = places[self.element(position) as usize].address;
+                let address = enumeration.place(self.element(position)).address;
                 self.entry(position, address)
             });
         List {

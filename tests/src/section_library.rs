@@ -32,7 +32,7 @@ pub struct Fill {
 }
 
 impl Fill {
-    pub fn of(m: [i64; 6], triplet: [i64; 3], [processor, place, quota]: [i64; 3]) -> Fill {
+    pub fn of(m: [i64; 8], triplet: [i64; 3], [processor, place, quota]: [i64; 3]) -> Fill {
         Fill {
             m: Mapping::of(m),
             triplet: Triplet::of(triplet),
@@ -81,6 +81,8 @@ extern "C" {
         stride: i64,
         offset: i64,
         size: i64,
+        array_lower: i64,
+        template_lower: i64,
         lower: i64,
         upper: i64,
         step: i64,
@@ -93,6 +95,8 @@ extern "C" {
         stride: i64,
         offset: i64,
         size: i64,
+        array_lower: i64,
+        template_lower: i64,
         lower: i64,
         upper: i64,
         step: i64,
@@ -106,6 +110,8 @@ extern "C" {
         stride: i64,
         offset: i64,
         size: i64,
+        array_lower: i64,
+        template_lower: i64,
         lower: i64,
         upper: i64,
         step: i64,
@@ -127,6 +133,8 @@ pub fn section_steps(m: &Mapping, triplet: &Triplet) -> Steps {
             m.stride,
             m.offset,
             m.size,
+            m.array_lower,
+            m.template_lower,
             triplet.lower,
             triplet.upper,
             triplet.step,
@@ -144,6 +152,8 @@ pub fn first_place(m: &Mapping, triplet: &Triplet, processor: i64) -> Placed {
             m.stride,
             m.offset,
             m.size,
+            m.array_lower,
+            m.template_lower,
             triplet.lower,
             triplet.upper,
             triplet.step,
@@ -174,6 +184,8 @@ unsafe fn fill_bytes(fill: &Fill, list: *mut u8, list_bytes: usize) -> Filled {
         fill.m.stride,
         fill.m.offset,
         fill.m.size,
+        fill.m.array_lower,
+        fill.m.template_lower,
         fill.triplet.lower,
         fill.triplet.upper,
         fill.triplet.step,

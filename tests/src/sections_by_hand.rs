@@ -8,18 +8,25 @@ use crate::memory::Memory;
 use crate::section_comparison::Filling;
 use crate::section_library::{Fill, Filled, Placed, Steps, Triplet};
 
-const DENSE: [i64; 6] = [96, 3, 4, 1, 0, 96];
-const EVERY_THIRD_CELL: [i64; 6] = [144, 4, 4, 3, 0, 48];
-const SMALL: [i64; 6] = [12, 3, 2, 1, 0, 12];
-const EIGHT_ELEMENTS: [i64; 6] = [8, 3, 4, 1, 0, 8];
-const NO_ELEMENTS: [i64; 6] = [1, 1, 1, 1, 0, 0];
-const MOST_PROCESSORS: [i64; 6] = [96, 1_024, 4, 1, 0, 96];
-const TOO_MANY_PROCESSORS: [i64; 6] = [96, 1_025, 4, 1, 0, 96];
-const LARGEST_BLOCK: [i64; 6] = [96, 3, 65_536, 1, 0, 96];
-const TOO_LARGE_BLOCK: [i64; 6] = [96, 3, 65_537, 1, 0, 96];
+const DENSE: [i64; 8] = [96, 3, 4, 1, 0, 96, 0, 0];
+const EVERY_THIRD_CELL: [i64; 8] = [144, 4, 4, 3, 0, 48, 0, 0];
+const SMALL: [i64; 8] = [12, 3, 2, 1, 0, 12, 0, 0];
+const EIGHT_ELEMENTS: [i64; 8] = [8, 3, 4, 1, 0, 8, 0, 0];
+const NO_ELEMENTS: [i64; 8] = [1, 1, 1, 1, 0, 0, 0, 0];
+const MOST_PROCESSORS: [i64; 8] = [96, 1_024, 4, 1, 0, 96, 0, 0];
+const TOO_MANY_PROCESSORS: [i64; 8] = [96, 1_025, 4, 1, 0, 96, 0, 0];
+const LARGEST_BLOCK: [i64; 8] = [96, 3, 65_536, 1, 0, 96, 0, 0];
+const TOO_LARGE_BLOCK: [i64; 8] = [96, 3, 65_537, 1, 0, 96, 0, 0];
+/// A(1:48) aligned with T(3*j-3), and A(-3:44) with T(3*j+7) of a template from -2
+/// on: both are the array above on every third cell.
+const FROM_ONE: [i64; 8] = [144, 4, 4, 3, -3, 48, 1, 0];
+const FROM_MINUS_THREE: [i64; 8] = [144, 4, 4, 3, 7, 48, -3, -2];
+/// Its last index is one past the largest. Its cells lie past the template too, which
+/// is asked later.
+const PAST_THE_LARGEST: [i64; 8] = [144, 4, 4, 1, 0, 48, 2_147_483_601, 0];
 
 /// A mapping, a section, and the answer of its steps.
-const STEPS: [([i64; 6], [i64; 3], [i64; 9]); 13] = [
+const STEPS: [([i64; 8], [i64; 3], [i64; 9]); 18] = [
     (DENSE, [0, 95, 7], [0, 14, 2, 14, 1, 2, 21, 2, -3]),
     (DENSE, [91, 0, -7], [0, 14, 2, 14, 1, 2, 21, 2, -3]),
     (EIGHT_ELEMENTS, [0, 10, 7], [0, 2, 2, 14, 1, 2, 21, 2, -3]),
@@ -41,13 +48,22 @@ const STEPS: [([i64; 6], [i64; 3], [i64; 9]); 13] = [
         [0, 96, 2, 1, 0, 1, 131_073, 1, -65_535],
     ),
     (TOO_LARGE_BLOCK, [0, 95, 1], [3, 0, 0, 0, 0, 0, 0, 0, 0]),
+    (FROM_ONE, [1, 48, 3], [0, 16, 2, 18, 1, 2, 45, 3, -3]),
+    (FROM_ONE, [0, 48, 3], [7, 0, 0, 0, 0, 0, 0, 0, 0]),
+    (
+        FROM_MINUS_THREE,
+        [-3, 44, 3],
+        [0, 16, 2, 18, 1, 2, 45, 3, -3],
+    ),
+    (FROM_MINUS_THREE, [45, -3, -3], [7, 0, 0, 0, 0, 0, 0, 0, 0]),
+    (PAST_THE_LARGEST, [0, 0, 0], [15, 0, 0, 0, 0, 0, 0, 0, 0]),
 ];
 
 /// A mapping, a section, and a processor's whole list: first place, tries,
 /// count, and the addresses.
-type WholeList = ([i64; 6], [i64; 3], i64, [i32; 3], &'static [u32]);
+type WholeList = ([i64; 8], [i64; 3], i64, [i32; 3], &'static [u32]);
 
-const LISTS: [WholeList; 17] = [
+const LISTS: [WholeList; 21] = [
     (DENSE, [0, 95, 7], 0, [0, 8, 14], &[0, 6, 17, 23, 28]),
     (DENSE, [0, 95, 7], 1, [1, 9, 14], &[3, 8, 14, 25, 31]),
     (DENSE, [0, 95, 7], 2, [3, 7, 14], &[5, 11, 16, 22]),
@@ -65,6 +81,10 @@ const LISTS: [WholeList; 17] = [
     (SMALL, [9, 0, -4], 0, [2, 1, 3], &[1]),
     (SMALL, [9, 0, -4], 1, [0, 1, 3], &[3]),
     (NO_ELEMENTS, [5, 1, 3], 0, [0, 0, 0], &[]),
+    (FROM_ONE, [1, 48, 3], 1, [4, 7, 16], &[2, 4, 9, 11]),
+    (FROM_ONE, [1, 48, 3], 3, [5, 7, 16], &[3, 5, 8, 10]),
+    (FROM_MINUS_THREE, [-3, 44, 3], 0, [0, 7, 16], &[0, 2, 7, 9]),
+    (FROM_MINUS_THREE, [-3, 43, 3], 2, [1, 7, 16], &[0, 2, 5, 7]),
 ];
 
 /// Processor, place and quota of a fill of 0:95:7 in the dense array; refusal,

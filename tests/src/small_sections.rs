@@ -2,7 +2,7 @@
 //! first place, and each processor's whole list with its tries.
 
 use crate::comparison::{Comparison, Difference, Outcome};
-use crate::enumeration::{enumerate, Array, Place};
+use crate::enumeration::{enumerate, Array, Enumeration};
 use crate::library::Mapping;
 use crate::memory::Memory;
 use crate::questions;
@@ -10,6 +10,7 @@ use crate::section_comparison::Filling;
 use crate::section_enumeration::{walk, Section};
 use crate::section_library::{Fill, Placed, Steps, Triplet};
 use crate::section_search;
+use crate::small_bounds::{self, with_bounds};
 
 const LARGEST_SIZE: u64 = 24;
 const LARGEST_STEP: i64 = 7;
@@ -18,32 +19,61 @@ const BEYOND: i64 = 3;
 
 const PROCESSORS: [u64; 4] = [1, 2, 3, 5];
 const BLOCKS: [u64; 5] = [1, 2, 3, 4, 6];
-/// Stride and offset.
-const ALIGNMENTS: [(u64, u64); 6] = [(1, 0), (1, 3), (2, 1), (3, 0), (5, 2), (6, 5)];
+/// Stride and first cell.
+const ALIGNMENTS: [(u64, i64); 6] = [(1, 0), (1, 3), (2, 1), (3, 0), (5, 2), (6, 5)];
+
+/// One in so many arrays, and the sizes, that are tried with every pair of bounds.
+const ONE_IN: usize = 17;
+const SOME_SIZES: [u64; 3] = [0, 1, 7];
 
 const LARGEST_QUOTA: i64 = 1_000_000;
 const GUARD: usize = 8;
 
+/// Each size has the next pair of lower bounds.
 pub fn compare_sections(comparison: &mut Comparison) -> Result<String, Difference> {
+    let mut bounds = small_bounds::in_turn();
     let mut sections = 0;
     for array in arrays() {
-        let places = enumerate(&array).places;
-        for size in 0..=LARGEST_SIZE {
-            let m = mapping(&array, size);
-            for triplet in triplets(size) {
-                compare_section(comparison, &m, &triplet, &places)?;
-                sections += 1;
-            }
+        for (size, bounds) in (0..=LARGEST_SIZE).zip(&mut bounds) {
+            sections += compare_size(comparison, &with_bounds(&array, bounds), size)?;
         }
     }
     Ok(format!("{sections} small sections, every list"))
 }
 
+/// The same on some arrays, with every pair of bounds.
+pub fn compare_bounds(comparison: &mut Comparison) -> Result<String, Difference> {
+    let mut sections = 0;
+    for array in arrays().iter().step_by(ONE_IN) {
+        for bounds in small_bounds::ALL {
+            for size in SOME_SIZES {
+                sections += compare_size(comparison, &with_bounds(array, bounds), size)?;
+            }
+        }
+    }
+    Ok(format!(
+        "{sections} small sections, with every pair of bounds"
+    ))
+}
+
+/// All sections of an array's first elements. Says how many.
+fn compare_size(comparison: &mut Comparison, array: &Array, size: u64) -> Result<u64, Difference> {
+    let enumeration = enumerate(array);
+    let m = mapping(array, size);
+    let mut sections = 0;
+    for triplet in triplets(&m) {
+        compare_section(comparison, &m, &triplet, &enumeration)?;
+        sections += 1;
+    }
+    Ok(sections)
+}
+
 /// Compares the search of steps and places with the enumeration.
 pub fn compare_searches(comparison: &mut Comparison) -> Result<String, Difference> {
-    for array in arrays() {
-        for triplet in triplets(LARGEST_SIZE) {
-            let m = mapping(&array, LARGEST_SIZE);
+    for (array, bounds) in arrays().iter().zip(small_bounds::in_turn()) {
+        let array = with_bounds(array, bounds);
+        let m = mapping(&array, LARGEST_SIZE);
+        for triplet in triplets(&m) {
             if questions::of_mapping_and_section(&m, &triplet) == 0 {
                 compare_search(comparison, array, triplet)?;
             }
@@ -63,6 +93,8 @@ fn arrays() -> Vec<Array> {
                     stride,
                     offset,
                     size: LARGEST_SIZE,
+                    array_lower: 0,
+                    template_lower: 0,
                 });
             }
         }
@@ -73,17 +105,19 @@ fn arrays() -> Vec<Array> {
 /// The first elements of an array, on a template that the whole array fits.
 fn mapping(array: &Array, size: u64) -> Mapping {
     Mapping {
-        cells: array.cell(array.size) as i64,
+        cells: array.cell(array.indices().end) as i64,
         processors: array.processors as i64,
         block: array.block as i64,
         stride: array.stride as i64,
-        offset: array.offset as i64,
+        offset: array.offset,
         size: size as i64,
+        array_lower: array.array_lower,
+        template_lower: array.template_lower,
     }
 }
 
-fn triplets(size: u64) -> impl Iterator<Item = Triplet> {
-    let bounds = -BEYOND..=size as i64 + BEYOND;
+fn triplets(m: &Mapping) -> impl Iterator<Item = Triplet> {
+    let bounds = m.array_lower - BEYOND..=m.array_lower + m.size + BEYOND;
     let steps = -LARGEST_STEP..=LARGEST_STEP;
     bounds.clone().flat_map(move |lower| {
         let steps = steps.clone();
@@ -99,7 +133,7 @@ fn compare_section(
     comparison: &mut Comparison,
     m: &Mapping,
     triplet: &Triplet,
-    places: &[Place],
+    enumeration: &Enumeration,
 ) -> Outcome {
     let refusal = questions::of_mapping_and_section(m, triplet);
     if refusal != 0 {
@@ -109,7 +143,7 @@ fn compare_section(
     let section = Section::new(array, *triplet);
     comparison.section_steps(m, triplet, Steps::of(&section))?;
     for processor in 0..array.processors {
-        compare_list(comparison, m, &section, processor, places)?;
+        compare_list(comparison, m, &section, processor, enumeration)?;
     }
     Ok(())
 }
@@ -133,9 +167,9 @@ fn compare_list(
     m: &Mapping,
     section: &Section,
     processor: u64,
-    places: &[Place],
+    enumeration: &Enumeration,
 ) -> Outcome {
-    let list = section.list(processor, places);
+    let list = section.list(processor, enumeration);
     let first = list.place_after(0);
     comparison.first_place(m, &section.triplet, processor as i64, Placed::at(first))?;
     let fill = whole_fill(m, &section.triplet, processor, first);

@@ -3,6 +3,7 @@
 //! one pair, once.
 
 use crate::comparison::{Comparison, Difference, Outcome};
+use crate::small_bounds;
 use crate::transfer_comparison::Transferring;
 use crate::transfer_enumeration::{pair, Entry, Half};
 use crate::transfer_library::{Side, Transfer};
@@ -10,10 +11,11 @@ use crate::transfer_library::{Side, Transfer};
 const SIZE: i64 = 13;
 const PROCESSORS: [i64; 4] = [1, 2, 3, 5];
 const BLOCKS: [i64; 3] = [1, 2, 4];
-/// Stride and offset.
+/// Stride and first cell.
 const ALIGNMENTS: [(i64, i64); 4] = [(1, 0), (1, 3), (2, 1), (5, 2)];
 
-/// Sections of 13, 7, 5, 1 and no elements, upwards and downwards.
+/// Sections of 13, 7, 5, 1 and no elements, upwards and downwards, of an array with
+/// lower bound 0.
 const SECTIONS: [[i64; 3]; 13] = [
     [0, 12, 1],
     [12, 0, -1],
@@ -41,14 +43,29 @@ pub fn compare_assignments(comparison: &mut Comparison) -> Result<String, Differ
     Ok(format!("{assignments} small assignments, every pair"))
 }
 
+/// Each side has the next pair of bounds.
 fn sides() -> Vec<Side> {
+    let mut bounds = small_bounds::in_turn();
     let mut sides = Vec::new();
     for p in PROCESSORS {
         for k in BLOCKS {
-            for (a, b) in ALIGNMENTS {
-                for [l, h, s] in SECTIONS {
-                    let cells = a * (SIZE - 1) + b + 1;
-                    sides.push(Side::of([cells, p, k, a, b, SIZE, l, h, s]));
+            for (a, first_cell) in ALIGNMENTS {
+                for ([l, h, s], [la, lt]) in SECTIONS.into_iter().zip(&mut bounds) {
+                    let cells = a * (SIZE - 1) + first_cell + 1;
+                    let b = first_cell + lt - a * la;
+                    sides.push(Side::of([
+                        cells,
+                        p,
+                        k,
+                        a,
+                        b,
+                        SIZE,
+                        la,
+                        lt,
+                        l + la,
+                        h + la,
+                        s,
+                    ]));
                 }
             }
         }

@@ -16,10 +16,10 @@ pub struct Side {
 
 impl Side {
     /// The numbers in the order of the call's arguments.
-    pub fn of(numbers: [i64; 9]) -> Side {
-        let [t, p, k, a, b, n, l, h, s] = numbers;
+    pub fn of(numbers: [i64; 11]) -> Side {
+        let [t, p, k, a, b, n, la, lt, l, h, s] = numbers;
         Side {
-            m: Mapping::of([t, p, k, a, b, n]),
+            m: Mapping::of([t, p, k, a, b, n, la, lt]),
             triplet: Triplet::of([l, h, s]),
         }
     }
@@ -50,6 +50,8 @@ extern "C" {
         left_stride: i64,
         left_offset: i64,
         left_size: i64,
+        left_array_lower: i64,
+        left_template_lower: i64,
         left_lower: i64,
         left_upper: i64,
         left_step: i64,
@@ -59,6 +61,8 @@ extern "C" {
         right_stride: i64,
         right_offset: i64,
         right_size: i64,
+        right_array_lower: i64,
+        right_template_lower: i64,
         right_lower: i64,
         right_upper: i64,
         right_step: i64,
@@ -100,6 +104,8 @@ pub fn transfers(transfer: &Transfer, lists: [&mut [i32]; 3]) -> Transferred {
             left.m.stride,
             left.m.offset,
             left.m.size,
+            left.m.array_lower,
+            left.m.template_lower,
             left.triplet.lower,
             left.triplet.upper,
             left.triplet.step,
@@ -109,6 +115,8 @@ pub fn transfers(transfer: &Transfer, lists: [&mut [i32]; 3]) -> Transferred {
             right.m.stride,
             right.m.offset,
             right.m.size,
+            right.m.array_lower,
+            right.m.template_lower,
             right.triplet.lower,
             right.triplet.upper,
             right.triplet.step,

@@ -16,7 +16,7 @@ use Rattle.model.specs.Sections.{layout, count, index, cell, address, ownsAt}
 use Rattle.model.specs.Steps.{spread, upward}
 use Rattle.model.specs.Questions.{firstNo, ofSection}
 use Rattle.model.proofs.AddressLaws.{of-owns, rank-is}
-use Rattle.model.proofs.QuestionLaws.{accepted}
+use Rattle.model.proofs.AcceptedLaws.{accepted}
 use Rattle.model.proofs.SectionLaws.{Moved, index-moved, cells-moved}
 use Rattle.model.proofs.CellOwners.{course-pos, owner-rest, column-lt, split}
 use Rattle.mapping.proofs.CellLaws.{cells, rank-direct}

@@ -17,7 +17,7 @@ use Rattle.model.specs.Steps.{goOn, spread, stepsOf, upward, going}
 use Rattle.model.specs.Questions.{firstNo, ofSection}
 use Rattle.model.specs.Calls.{walkOf}
 use Rattle.model.proofs.AddressLaws.{of-owns, unowned}
-use Rattle.model.proofs.QuestionLaws.{accepted}
+use Rattle.model.proofs.AcceptedLaws.{accepted}
 use Rattle.model.proofs.SectionLaws.{Moved, spread-pos, cells-moved}
 use Rattle.model.proofs.Rests.{le-or-lt}
 use Rattle.model.proofs.WalkLaws.{course}

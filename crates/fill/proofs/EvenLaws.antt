@@ -16,7 +16,7 @@ use Rattle.model.specs.Sections.{layout, count, index, address, ownsAt}
 use Rattle.model.specs.Steps.{upward}
 use Rattle.model.specs.Questions.{firstNo, ofSection}
 use Rattle.model.specs.Calls.{walkOf}
-use Rattle.model.proofs.QuestionLaws.{accepted}
+use Rattle.model.proofs.AcceptedLaws.{accepted}
 use Rattle.model.proofs.SectionLaws.{Moved, index-moved, index-lt}
 use Rattle.model.proofs.Rests.{le-or-lt}
 use Rattle.walk.specs.declared.moves.Moves.{Moves}

@@ -16,7 +16,7 @@ use Rattle.model.specs.Steps.{stepsBy, goOn, spread, stepsOf, upward, going, co
 use Rattle.model.specs.Questions.{firstNo, ofSection}
 use Rattle.model.specs.Calls.{walkOf}
 use Rattle.model.proofs.AddressLaws.{owns-of, of-owns}
-use Rattle.model.proofs.QuestionLaws.{accepted}
+use Rattle.model.proofs.AcceptedLaws.{accepted}
 use Rattle.model.proofs.SectionLaws.{Moved, spread-pos, cells-moved}
 use Rattle.model.proofs.Rests.{le-or-lt}
 use Rattle.model.proofs.CellOwners.{facing, column-lt}

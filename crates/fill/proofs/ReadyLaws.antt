@@ -15,7 +15,8 @@ use Rattle.model.specs.declared.Section.{Section}
 use Rattle.model.specs.Ownership.{nat}
 use Rattle.model.specs.Sections.{layout, count, ownsAt}
 use Rattle.model.specs.Questions.{Question, firstNo, AllYes, between, isBelow, isPlace, ofSection, ofProcessor, ofPlace, ofQuota}
-use Rattle.model.proofs.QuestionLaws.{mapping-yes, whole-mapping, between-is, below-is, all-yes, asks-on, stops}
+use Rattle.model.proofs.QuestionLaws.{between-is, below-is, all-yes, asks-on, stops}
+use Rattle.model.proofs.AcceptedLaws.{mapping-yes, whole-mapping}
 use Rattle.section.specs.declared.questions.Strided.{Strided}
 use Rattle.section.specs.declared.questions.Asked.the-variants as asked
 use Rattle.section.specs.Strides.{stridedOf, Bounded, moved, indexAt, ownedAt}

@@ -14,7 +14,7 @@ use Rattle.model.specs.Ownership.{courseCells}
 use Rattle.model.specs.Sections.{layout, count}
 use Rattle.model.specs.Steps.{processorIndex, returnIndex, processorStep, returnStep, oneStep, stepsBy, spread, stepsOf}
 use Rattle.model.specs.Questions.{firstNo, ofSection}
-use Rattle.model.proofs.QuestionLaws.{accepted}
+use Rattle.model.proofs.AcceptedLaws.{accepted}
 use Rattle.model.proofs.SizedLaws.{course-high}
 use Rattle.model.proofs.SectionLaws.{spread-pos}
 use Rattle.model.proofs.Rests.{Course}

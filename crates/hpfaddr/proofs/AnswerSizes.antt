@@ -85,7 +85,7 @@ pub fill-small : (c : FillCall) → FilledFits (reportOf (fill c))
 unfolding fill answer requestOf
 fill-small c =
     let w = fill-bounds c in
-    (omega (arith, refusal-le 14 (ofFill c) refl), omega (arith, w .entries, w .tries), omega (arith, w .tries), place-small c)
+    (omega (arith, refusal-le 15 (ofFill c) refl), omega (arith, w .entries, w .tries), omega (arith, w .tries), place-small c)
 
 -- ---- transfers
 

@@ -18,20 +18,22 @@ use Rattle.transfer.specs.Answers.{callOf}
 use Rattle.hpfaddr.specs.Fields.{sectionFrom}
 
 -- a mapping made of the numbers as the machine reads them back
-pub mapping-read : (t p k a b n : ℤ) → SFits w64 t → SFits w64 p → SFits w64 k → SFits w64 a → SFits w64 b → SFits w64 n → {m : Mapping}
-    → m ≡ mappingOf (back w64 t) (back w64 p) (back w64 k) (back w64 a) (back w64 b) (back w64 n) → m ≡ mappingOf t p k a b n
-mapping-read t p k a b n ft fp fk fa fb fn e =
+pub mapping-read : (t p k a b n j o : ℤ) → SFits w64 t → SFits w64 p → SFits w64 k → SFits w64 a → SFits w64 b → SFits w64 n → SFits w64 j → SFits w64 o
+    → {m : Mapping}
+    → m ≡ mappingOf (back w64 t) (back w64 p) (back w64 k) (back w64 a) (back w64 b) (back w64 n) (back w64 j) (back w64 o)
+    → m ≡ mappingOf t p k a b n j o
+mapping-read t p k a b n j o ft fp fk fa fb fn fj fo e =
     e
-    ∙ (λ i. mappingOf (toZ-ofZ w64 t ft i) (toZ-ofZ w64 p fp i) (toZ-ofZ w64 k fk i) (toZ-ofZ w64 a fa i) (toZ-ofZ w64 b fb i) (toZ-ofZ w64 n fn i))
+    ∙ (λ i. mappingOf (toZ-ofZ w64 t ft i) (toZ-ofZ w64 p fp i) (toZ-ofZ w64 k fk i) (toZ-ofZ w64 a fa i) (toZ-ofZ w64 b fb i) (toZ-ofZ w64 n fn i) (toZ-ofZ w64 j fj i) (toZ-ofZ w64 o fo i))
 
 -- a section made so
-pub section-read : (t p k a b n l h s : ℤ) → SFits w64 t → SFits w64 p → SFits w64 k → SFits w64 a → SFits w64 b → SFits w64 n → SFits w64 l → SFits w64 h → SFits w64 s
+pub section-read : (t p k a b n j o l h s : ℤ) → SFits w64 t → SFits w64 p → SFits w64 k → SFits w64 a → SFits w64 b → SFits w64 n → SFits w64 j → SFits w64 o → SFits w64 l → SFits w64 h → SFits w64 s
     → {x : Section}
-    → x ≡ sectionFrom (back w64 t) (back w64 p) (back w64 k) (back w64 a) (back w64 b) (back w64 n) (back w64 l) (back w64 h) (back w64 s)
-    → x ≡ sectionFrom t p k a b n l h s
-section-read t p k a b n l h s ft fp fk fa fb fn fl fh fs e =
+    → x ≡ sectionFrom (back w64 t) (back w64 p) (back w64 k) (back w64 a) (back w64 b) (back w64 n) (back w64 j) (back w64 o) (back w64 l) (back w64 h) (back w64 s)
+    → x ≡ sectionFrom t p k a b n j o l h s
+section-read t p k a b n j o l h s ft fp fk fa fb fn fj fo fl fh fs e =
     e
-    ∙ (λ i. sectionFrom (toZ-ofZ w64 t ft i) (toZ-ofZ w64 p fp i) (toZ-ofZ w64 k fk i) (toZ-ofZ w64 a fa i) (toZ-ofZ w64 b fb i) (toZ-ofZ w64 n fn i) (toZ-ofZ w64 l fl i) (toZ-ofZ w64 h fh i) (toZ-ofZ w64 s fs i))
+    ∙ (λ i. sectionFrom (toZ-ofZ w64 t ft i) (toZ-ofZ w64 p fp i) (toZ-ofZ w64 k fk i) (toZ-ofZ w64 a fa i) (toZ-ofZ w64 b fb i) (toZ-ofZ w64 n fn i) (toZ-ofZ w64 j fj i) (toZ-ofZ w64 o fo i) (toZ-ofZ w64 l fl i) (toZ-ofZ w64 h fh i) (toZ-ofZ w64 s fs i))
 
 -- a fill of such a section, with its own numbers
 pub fill-read : {x y : Section} (q t z : ℤ) → SFits w64 q → SFits w64 t → SFits w64 z → y ≡ x → (bs after : List ℕ) (r : Filled)

@@ -27,9 +27,9 @@ foundFields r = record { refusal = r .refusal; index = r .index }
 abbrev pub countedFields : HpfCounted → LocalCountAnswer
 countedFields r = record { refusal = r .refusal; elements = r .elements }
 
--- the section that nine numbers make
-abbrev pub sectionFrom : ℤ → ℤ → ℤ → ℤ → ℤ → ℤ → ℤ → ℤ → ℤ → Section
-sectionFrom t p k a b n l h s = record { mapping = mappingOf t p k a b n; triplet = tripletOf l h s }
+-- the section that eleven numbers make: T p k a b n La Lt, and l h s
+abbrev pub sectionFrom : ℤ → ℤ → ℤ → ℤ → ℤ → ℤ → ℤ → ℤ → ℤ → ℤ → ℤ → Section
+sectionFrom t p k a b n lower origin l h s = record { mapping = mappingOf t p k a b n lower origin; triplet = tripletOf l h s }
 
 abbrev pub stepsFields : HpfSteps → SectionStepsAnswer
 stepsFields r = record {

@@ -13,6 +13,10 @@ In32 n = n < 2 ^ 31
 abbrev pub In64 : ℕ → Type 0
 In64 n = n < 2 ^ 63
 
+-- a declared index, which may be negative
+abbrev pub Signed32 : ℤ → Type 0
+Signed32 z = natAbs z < 2 ^ 31
+
 -- a column move, up or down: it stays in the largest block
 abbrev pub InBlock : ℤ → Type 0
 InBlock y = natAbs y ≤ 65535
@@ -21,7 +25,7 @@ abbrev pub OwnedFits : OwnershipAnswer → Type 0
 OwnedFits a = In32 (a .refusal) × In32 (a .processor) × In32 (a .address)
 
 abbrev pub FoundFits : GoingBackAnswer → Type 0
-FoundFits a = In32 (a .refusal) × In32 (a .index)
+FoundFits a = In32 (a .refusal) × Signed32 (a .index)
 
 abbrev pub CountedFits : LocalCountAnswer → Type 0
 CountedFits a = In32 (a .refusal) × In32 (a .elements)

@@ -46,6 +46,8 @@ pub extern "C" fn hpf_transfers(
     left_stride: i64,
     left_offset: i64,
     left_size: i64,
+    left_array_lower: i64,
+    left_template_lower: i64,
     left_lower: i64,
     left_upper: i64,
     left_step: i64,
@@ -55,6 +57,8 @@ pub extern "C" fn hpf_transfers(
     right_stride: i64,
     right_offset: i64,
     right_size: i64,
+    right_array_lower: i64,
+    right_template_lower: i64,
     right_lower: i64,
     right_upper: i64,
     right_step: i64,
@@ -66,8 +70,8 @@ pub extern "C" fn hpf_transfers(
 ) -> HpfTransferred
     ensures { λ r. ⌜ TransferredFields
         (callOf
-        (sectionFrom «left_cells» «left_processors» «left_block» «left_stride» «left_offset» «left_size» «left_lower» «left_upper» «left_step»)
-        (sectionFrom «right_cells» «right_processors» «right_block» «right_stride» «right_offset» «right_size» «right_lower» «right_upper» «right_step»)
+        (sectionFrom «left_cells» «left_processors» «left_block» «left_stride» «left_offset» «left_size» «left_array_lower» «left_template_lower» «left_lower» «left_upper» «left_step»)
+        (sectionFrom «right_cells» «right_processors» «right_block» «right_stride» «right_offset» «right_size» «right_array_lower» «right_template_lower» «right_lower» «right_upper» «right_step»)
         sender receiver
         (listsOf (now (positions .entry)) (now (sent .entry)) (now (received .entry))))
         (listsOf (now (positions .exit)) (now (sent .exit)) (now (received .exit)))
@@ -81,6 +85,8 @@ pub extern "C" fn hpf_transfers(
         left_stride,
         left_offset,
         left_size,
+        left_array_lower,
+        left_template_lower,
         left_lower,
         left_upper,
         left_step,
@@ -92,6 +98,8 @@ pub extern "C" fn hpf_transfers(
         right_stride,
         right_offset,
         right_size,
+        right_array_lower,
+        right_template_lower,
         right_lower,
         right_upper,
         right_step,

@@ -22,7 +22,7 @@ pub struct HpfOwned {
     pub address: u32,
 }
 
-// Processor and local address of an element.
+// Processor and local address of the element of a declared index.
 #[no_mangle]
 pub extern "C" fn hpf_ownership(
     cells: i64,
@@ -31,12 +31,23 @@ pub extern "C" fn hpf_ownership(
     stride: i64,
     offset: i64,
     size: i64,
+    array_lower: i64,
+    template_lower: i64,
     index: i64,
 ) -> HpfOwned
-    ensures { λ r. ⌜ ownedFields r ≡ ownership (mappingOf cells processors block stride offset size) index ⌝ }
+    ensures { λ r. ⌜ ownedFields r ≡ ownership (mappingOf cells processors block stride offset size «array_lower» «template_lower») index ⌝ }
     ensures { λ r. ⌜ OwnedFits (ownedFields r) ⌝ }
 {
-    let m = mapping_of(cells, processors, block, stride, offset, size);
+    let m = mapping_of(
+        cells,
+        processors,
+        block,
+        stride,
+        offset,
+        size,
+        array_lower,
+        template_lower,
+    );
     match mapping::ownership(m, index) {
         Owned::At { processor, address } => HpfOwned {
             refusal: 0,
@@ -54,10 +65,10 @@ pub extern "C" fn hpf_ownership(
 #[repr(C)]
 pub struct HpfFound {
     pub refusal: u32,
-    pub index: u32,
+    pub index: i32,
 }
 
-// The element at an address of a processor.
+// The declared index of the element at an address of a processor.
 #[no_mangle]
 pub extern "C" fn hpf_going_back(
     cells: i64,
@@ -66,17 +77,28 @@ pub extern "C" fn hpf_going_back(
     stride: i64,
     offset: i64,
     size: i64,
+    array_lower: i64,
+    template_lower: i64,
     processor: i64,
     address: i64,
 ) -> HpfFound
-    ensures { λ r. ⌜ foundFields r ≡ goingBack (mappingOf cells processors block stride offset size) processor address ⌝ }
+    ensures { λ r. ⌜ foundFields r ≡ goingBack (mappingOf cells processors block stride offset size «array_lower» «template_lower») processor address ⌝ }
     ensures { λ r. ⌜ FoundFits (foundFields r) ⌝ }
 {
-    let m = mapping_of(cells, processors, block, stride, offset, size);
+    let m = mapping_of(
+        cells,
+        processors,
+        block,
+        stride,
+        offset,
+        size,
+        array_lower,
+        template_lower,
+    );
     match mapping::going_back(m, processor, address) {
-        Found::At(i) => HpfFound {
+        Found::At(j) => HpfFound {
             refusal: 0,
-            index: i.0 as u32,
+            index: j.0 as i32,
         },
         Found::Refused(e) => HpfFound {
             refusal: e,
@@ -100,12 +122,23 @@ pub extern "C" fn hpf_local_count(
     stride: i64,
     offset: i64,
     size: i64,
+    array_lower: i64,
+    template_lower: i64,
     processor: i64,
 ) -> HpfCounted
-    ensures { λ r. ⌜ countedFields r ≡ localCount (mappingOf cells processors block stride offset size) processor ⌝ }
+    ensures { λ r. ⌜ countedFields r ≡ localCount (mappingOf cells processors block stride offset size «array_lower» «template_lower») processor ⌝ }
     ensures { λ r. ⌜ CountedFits (countedFields r) ⌝ }
 {
-    let m = mapping_of(cells, processors, block, stride, offset, size);
+    let m = mapping_of(
+        cells,
+        processors,
+        block,
+        stride,
+        offset,
+        size,
+        array_lower,
+        template_lower,
+    );
     match mapping::local_count(m, processor) {
         Counted::Elements(n) => HpfCounted {
             refusal: 0,

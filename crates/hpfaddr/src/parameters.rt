@@ -13,8 +13,10 @@ pub fn mapping_of(
     stride: i64,
     offset: i64,
     size: i64,
+    array_lower: i64,
+    template_lower: i64,
 ) -> Mapping
-    ensures { λ r. ⌜ r ≡ mappingOf cells processors block stride offset size ⌝ }
+    ensures { λ r. ⌜ r ≡ mappingOf cells processors block stride offset size «array_lower» «template_lower» ⌝ }
 {
     Mapping {
         cells,
@@ -23,6 +25,8 @@ pub fn mapping_of(
         stride,
         offset,
         size,
+        lower: array_lower,
+        origin: template_lower,
     }
 }
 
@@ -33,13 +37,24 @@ pub fn section_of(
     stride: i64,
     offset: i64,
     size: i64,
+    array_lower: i64,
+    template_lower: i64,
     lower: i64,
     upper: i64,
     step: i64,
 ) -> Section
-    ensures { λ r. ⌜ r ≡ sectionFrom cells processors block stride offset size lower upper step ⌝ }
+    ensures { λ r. ⌜ r ≡ sectionFrom cells processors block stride offset size «array_lower» «template_lower» lower upper step ⌝ }
 {
-    let mapping = mapping_of(cells, processors, block, stride, offset, size);
+    let mapping = mapping_of(
+        cells,
+        processors,
+        block,
+        stride,
+        offset,
+        size,
+        array_lower,
+        template_lower,
+    );
     let triplet = Triplet {
         lower,
         upper,

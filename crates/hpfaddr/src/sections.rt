@@ -2,6 +2,7 @@
 ghost use mathlib.Core.Path.{_≡_};
 ghost use Rattle.model.specs.Calls.{noReport, sectionSteps, firstPlaceAt};
 ghost use Rattle.section.specs.Answers.{stepAs};
+ghost use Rattle.fill.specs.Answers.{reportAs};
 ghost use Rattle.hpfaddr.specs.Fields.{stepsFields, placedFields, sectionFrom, filledFields, FilledFields};
 ghost use Rattle.hpfaddr.specs.Sizes.{StepsFit, PlacedFits, FilledFits};
 use crate::parameters::section_of;
@@ -22,6 +23,13 @@ pub struct HpfSteps {
     pub return_courses: u64,
     pub return_column: i64,
 }
+
+// A step that there is not.
+const NOT_THERE: Reported = Reported {
+    cells: 0,
+    courses: 0,
+    column: 0,
+};
 
 // The fields of one step, or of two; those of a step that there is not are 0.
 fn step_fields(count: u64, steps: u64, step: Reported, back: Reported) -> HpfSteps
@@ -66,11 +74,13 @@ pub extern "C" fn hpf_section_steps(
     stride: i64,
     offset: i64,
     size: i64,
+    array_lower: i64,
+    template_lower: i64,
     lower: i64,
     upper: i64,
     step: i64,
 ) -> HpfSteps
-    ensures { λ r. ⌜ stepsFields r ≡ sectionSteps (sectionFrom cells processors block stride offset size lower upper step) ⌝ }
+    ensures { λ r. ⌜ stepsFields r ≡ sectionSteps (sectionFrom cells processors block stride offset size «array_lower» «template_lower» lower upper step) ⌝ }
     ensures { λ r. ⌜ StepsFit (stepsFields r) ⌝ }
 {
     let x = section_of(
@@ -80,22 +90,15 @@ pub extern "C" fn hpf_section_steps(
         stride,
         offset,
         size,
+        array_lower,
+        template_lower,
         lower,
         upper,
         step,
     );
     match section::section_steps(x) {
         SectionSteps::NoStep(n) => no_step(0, n),
-        SectionSteps::OneStep(n, r) => step_fields(
-            n,
-            1,
-            r,
-            Reported {
-                cells: 0,
-                courses: 0,
-                column: 0,
-            },
-        ),
+        SectionSteps::OneStep(n, r) => step_fields(n, 1, r, NOT_THERE),
         SectionSteps::TwoSteps(n, r, w) => step_fields(n, 2, r, w),
         SectionSteps::Refused(e) => no_step(e, 0),
     }
@@ -116,12 +119,14 @@ pub extern "C" fn hpf_first_place(
     stride: i64,
     offset: i64,
     size: i64,
+    array_lower: i64,
+    template_lower: i64,
     lower: i64,
     upper: i64,
     step: i64,
     processor: i64,
 ) -> HpfPlaced
-    ensures { λ r. ⌜ placedFields r ≡ firstPlaceAt (sectionFrom cells processors block stride offset size lower upper step) processor ⌝ }
+    ensures { λ r. ⌜ placedFields r ≡ firstPlaceAt (sectionFrom cells processors block stride offset size «array_lower» «template_lower» lower upper step) processor ⌝ }
     ensures { λ r. ⌜ PlacedFits (placedFields r) ⌝ }
 {
     let x = section_of(
@@ -131,6 +136,8 @@ pub extern "C" fn hpf_first_place(
         stride,
         offset,
         size,
+        array_lower,
+        template_lower,
         lower,
         upper,
         step,
@@ -155,38 +162,11 @@ pub struct HpfFilled {
     pub place: u32,
 }
 
-// A fill of a list of bytes, 4 to an address, lowest first.
-#[no_mangle]
-pub extern "C" fn hpf_fill(
-    cells: i64,
-    processors: i64,
-    block: i64,
-    stride: i64,
-    offset: i64,
-    size: i64,
-    lower: i64,
-    upper: i64,
-    step: i64,
-    processor: i64,
-    place: i64,
-    quota: i64,
-    list: &mut [u8],
-) -> HpfFilled
-    ensures { λ r. ⌜ FilledFields (sectionFrom cells processors block stride offset size lower upper step) processor place quota (now (list .entry)) (now (list .exit)) r ⌝ }
-    ensures { λ r. ⌜ FilledFits (filledFields r) ⌝ }
+fn fields_of(f: Filled) -> HpfFilled
+    requires { ⌜ FilledFits (reportAs f) ⌝ }
+    ensures { λ r. ⌜ filledFields r ≡ reportAs f ⌝ }
 {
-    let x = section_of(
-        cells,
-        processors,
-        block,
-        stride,
-        offset,
-        size,
-        lower,
-        upper,
-        step,
-    );
-    match fill::fill_into_bytes(x, processor, place, quota, list) {
+    match f {
         Filled::Done(r) => HpfFilled {
             refusal: 0,
             entries: r.entries as u32,
@@ -200,4 +180,42 @@ pub extern "C" fn hpf_fill(
             place: 0,
         },
     }
+}
+
+// A fill of a list of bytes, 4 to an address, lowest first.
+#[no_mangle]
+pub extern "C" fn hpf_fill(
+    cells: i64,
+    processors: i64,
+    block: i64,
+    stride: i64,
+    offset: i64,
+    size: i64,
+    array_lower: i64,
+    template_lower: i64,
+    lower: i64,
+    upper: i64,
+    step: i64,
+    processor: i64,
+    place: i64,
+    quota: i64,
+    list: &mut [u8],
+) -> HpfFilled
+    ensures { λ r. ⌜ FilledFields (sectionFrom cells processors block stride offset size «array_lower» «template_lower» lower upper step) processor place quota (now (list .entry)) (now (list .exit)) r ⌝ }
+    ensures { λ r. ⌜ FilledFits (filledFields r) ⌝ }
+{
+    let x = section_of(
+        cells,
+        processors,
+        block,
+        stride,
+        offset,
+        size,
+        array_lower,
+        template_lower,
+        lower,
+        upper,
+        step,
+    );
+    fields_of(fill::fill_into_bytes(x, processor, place, quota, list))
 }

@@ -5,14 +5,15 @@ use mathlib.Core.Bool.{Bool, true, false}
 use mathlib.Core.List.{List, _++_}
 use native.Mathlib.Omega.{arith}
 use lib.Dec.{eqb}
-use lib.IntN.{ℤ, pos}
+use lib.IntN.{ℤ, pos, _+ℤ_, _-ℤ_}
 use borrow.Author.Tests.{eqb-true, eqb-false, ne-eqb}
 use Rattle.model.specs.declared.Mapping.{Mapping}
 use Rattle.model.specs.declared.Layout.{Layout}
-use Rattle.model.specs.Ownership.{nat, layoutOf, ownerOf, held}
-use Rattle.model.specs.Questions.{Question, firstNo, isBelow, isIndex, ofMapping, ofProcessor, ofIndex, ofAddress}
+use Rattle.model.specs.Ownership.{nat, lastIndex, fromLower, declaredIndex, layoutOf, ownerOf, held}
+use Rattle.model.specs.Questions.{Question, firstNo, between, isBelow, isIndex, ofMapping, ofProcessor, ofIndex, ofAddress}
 use Rattle.model.specs.Calls.{ownership, goingBack, localCount}
-use Rattle.model.proofs.QuestionLaws.{all-yes, asks-on, stops, whole-mapping}
+use Rattle.model.proofs.QuestionLaws.{all-yes, asks-on, stops}
+use Rattle.model.proofs.AcceptedLaws.{whole-mapping}
 use Rattle.mapping.specs.declared.questions.Mapped.the-variants.{By, Refused}
 use Rattle.mapping.specs.Answers.{mappedOf, noOwner, notFound, notCounted, ownershipIn, goingBackIn, localCountIn}
 
@@ -33,16 +34,17 @@ module _ (m : Mapping) where
           let f : firstNo (ofMapping m) ≡ q = let g = rw p at e in cc in
           record { first = f; some = λ z. eqb-false (firstNo (ofMapping m)) 0 p (f ∙ z) }
 
-  pub record Passed (l : Layout) : Type 0 where
+  pub record Passed (l : Layout) (low : ℤ) : Type 0 where
     pub none : firstNo (ofMapping m) ≡ 0
     pub layout : l ≡ layoutOf m
+    pub lower : low ≡ m .lower
 
-  pub passed : (l : Layout) → mappedOf m ≡ By l → Passed l
+  pub passed : (l : Layout) (low : ℤ) → mappedOf m ≡ By l low → Passed l low
   unfolding mappedOf
-  passed l e = go (eqb (firstNo (ofMapping m)) 0) refl
+  passed l low e = go (eqb (firstNo (ofMapping m)) 0) refl
     where
-      go : (b : Bool) → eqb (firstNo (ofMapping m)) 0 ≡ b → Passed l
-      go true p = record { none = eqb-true (firstNo (ofMapping m)) 0 p; layout = let g = rw p at e in cc }
+      go : (b : Bool) → eqb (firstNo (ofMapping m)) 0 ≡ b → Passed l low
+      go true p = let g = rw p at e in record { none = eqb-true (firstNo (ofMapping m)) 0 p; layout = cc; lower = cc }
       go false p = absurd (let f = rw p at e in let z : _≡_ {A = ℕ} 0 1 = cc in omega arith)
 
   -- ---- a mapping that was refused
@@ -67,46 +69,48 @@ module _ (m : Mapping) where
 
   -- ---- a mapping that passed
 
-  module _ (l : Layout) (e : mappedOf m ≡ By l) where
+  module _ (l : Layout) (low : ℤ) (e : mappedOf m ≡ By l low) where
     none : firstNo (ofMapping m) ≡ 0
-    none = passed l e .none
+    none = passed l low e .none
 
     asked-on : (rest : List Question) → firstNo (ofMapping m ++ rest) ≡ firstNo rest
     asked-on rest = asks-on (ofMapping m) rest (all-yes (ofMapping m) refl none)
 
     -- the numbers that the questions name are the layout's
-    same-size : (i : ℤ) → isBelow (m .size) i ≡ isBelow (pos (nat (m .size))) i
-    unfolding layoutOf
-    same-size i = ap (λ (z : ℤ). isBelow z i) (whole-mapping m none .size)
+    same-index : (j : ℤ) → isIndex m j ≡ between (m .lower) (m .lower +ℤ pos (nat (m .size)) -ℤ pos 1) j
+    unfolding isIndex lastIndex layoutOf
+    same-index j = ap (λ (z : ℤ). between (m .lower) (m .lower +ℤ z -ℤ pos 1) j) (whole-mapping m none .size)
 
     same-processors : (q : ℤ) → isBelow (m .processors) q ≡ isBelow (pos (nat (m .processors))) q
     unfolding layoutOf
     same-processors q = ap (λ (z : ℤ). isBelow z q) (whole-mapping m none .processors)
 
-    pub ownership-by : (i : ℤ) → ownershipIn l i ≡ ownership m i
-    unfolding ownershipIn ownership firstNo isIndex layoutOf
-    ownership-by i = rw (passed l e .layout) (go (isBelow (pos (nat (m .size))) i) refl)
+    pub ownership-by : (j : ℤ) → ownershipIn l low j ≡ ownership m j
+    unfolding ownershipIn ownership firstNo fromLower layoutOf
+    ownership-by j =
+        rw (passed l low e .layout, passed l low e .lower) (go (between (m .lower) (m .lower +ℤ pos (nat (m .size)) -ℤ pos 1) j) refl)
       where
-        go : (b : Bool) → isBelow (pos (nat (m .size))) i ≡ b → ownershipIn (layoutOf m) i ≡ ownership m i
-        go true p = rw (asked-on (ofIndex m i), same-size i, p)
-        go false p = rw (asked-on (ofIndex m i), same-size i, p)
+        go : (b : Bool) → between (m .lower) (m .lower +ℤ pos (nat (m .size)) -ℤ pos 1) j ≡ b
+            → ownershipIn (layoutOf m) (m .lower) j ≡ ownership m j
+        go true p = rw (asked-on (ofIndex m j), same-index j, p)
+        go false p = rw (asked-on (ofIndex m j), same-index j, p)
 
     pub local-count-by : (q : ℤ) → localCountIn l q ≡ localCount m q
     unfolding localCountIn localCount firstNo layoutOf
-    local-count-by q = rw (passed l e .layout) (go (isBelow (pos (nat (m .processors))) q) refl)
+    local-count-by q = rw (passed l low e .layout) (go (isBelow (pos (nat (m .processors))) q) refl)
       where
         go : (b : Bool) → isBelow (pos (nat (m .processors))) q ≡ b → localCountIn (layoutOf m) q ≡ localCount m q
         go true p = rw (asked-on (ofProcessor m q), same-processors q, p)
         go false p = rw (asked-on (ofProcessor m q), same-processors q, p)
 
-    pub going-back-by : (q x : ℤ) → goingBackIn l q x ≡ goingBack m q x
-    unfolding goingBackIn goingBack firstNo layoutOf
+    pub going-back-by : (q x : ℤ) → goingBackIn l low q x ≡ goingBack m q x
+    unfolding goingBackIn goingBack firstNo declaredIndex layoutOf
     going-back-by q x =
-        rw (passed l e .layout)
+        rw (passed l low e .layout, passed l low e .lower)
         (go (isBelow (pos (nat (m .processors))) q) refl (isBelow (pos (held (ownerOf (layoutOf m)) (nat (m .size)) (nat q))) x) refl)
       where
         go : (b : Bool) → isBelow (pos (nat (m .processors))) q ≡ b
-            → (c : Bool) → isBelow (pos (held (ownerOf (layoutOf m)) (nat (m .size)) (nat q))) x ≡ c → goingBackIn (layoutOf m) q x ≡ goingBack m q x
+            → (c : Bool) → isBelow (pos (held (ownerOf (layoutOf m)) (nat (m .size)) (nat q))) x ≡ c → goingBackIn (layoutOf m) (m .lower) q x ≡ goingBack m q x
         go true p true r = rw (asked-on (ofProcessor m q ++ ofAddress m q x), same-processors q, p, r)
         go true p false r = rw (asked-on (ofProcessor m q ++ ofAddress m q x), same-processors q, p, r)
         go false p c r = rw (asked-on (ofProcessor m q ++ ofAddress m q x), same-processors q, p)

@@ -60,5 +60,5 @@ unfolding cellOf
 sum-bounds l i d m = record {
   divisor = course-pos l (m .sized);
   terms = omega (arith, m .index, m .sized .size-high);
-  last = omega (arith, blocks-le l (m .sized) d (m .blocks), cell-high l (m .sized) i (m .index));
+  last = omega (arith, blocks-le l (m .sized) d (m .blocks), cell-high l (m .sized) i (m .index) (m .some));
 }

@@ -1,13 +1,13 @@
 -- The answers of `mapping`, by cases: the paper's number and values for each. Definitions only.
-use Prim.Native.Nat.{ℕ, _<_}
+use Prim.Native.Nat.{ℕ, _≤_, _<_}
 use mathlib.Core.Bool.{cond, _&&_}
 use mathlib.Core.List.{List, [], _∷_}
 use lib.Dec.{eqb}
-use lib.IntN.{ℤ, pos}
+use lib.IntN.{ℤ, pos, natAbs, _+ℤ_, _-ℤ_}
 use Rattle.model.specs.declared.Mapping.{Mapping}
 use Rattle.model.specs.declared.Layout.{Layout}
 use Rattle.model.specs.Ownership.{nat, layoutOf, ownerOf, rank, held, backTo}
-use Rattle.model.specs.Questions.{Question, ask, between, isBelow, most, firstNo, ofMapping}
+use Rattle.model.specs.Questions.{Question, ask, between, isBelow, most, least, firstNo, ofMapping}
 use Rattle.model.specs.Calls.{OwnershipAnswer, GoingBackAnswer, LocalCountAnswer}
 use Rattle.model.specs.Sized.{Sized}
 use Rattle.mapping.specs.declared.questions.Mapped.{Mapped}
@@ -19,9 +19,10 @@ use Rattle.mapping.specs.declared.Found.the-variants as found
 use Rattle.mapping.specs.declared.Counted.{Counted}
 use Rattle.mapping.specs.declared.Counted.the-variants as counted
 
--- T p k a b n as a mapping
-abbrev pub mappingOf : ℤ → ℤ → ℤ → ℤ → ℤ → ℤ → Mapping
-mappingOf t p k a b n = record { cells = t; processors = p; block = k; stride = a; offset = b; size = n }
+-- T p k a b n La Lt as a mapping
+abbrev pub mappingOf : ℤ → ℤ → ℤ → ℤ → ℤ → ℤ → ℤ → ℤ → Mapping
+mappingOf t p k a b n lower origin =
+    record { cells = t; processors = p; block = k; stride = a; offset = b; size = n; lower = lower; origin = origin }
 
 -- questions 1 to 4
 abbrev pub ofDealing : ℤ → ℤ → ℤ → ℤ → ℤ → List Question
@@ -29,22 +30,26 @@ ofDealing t p k a b =
     ask 1 (between (pos 1) most t)
     ∷ ask 2 (between (pos 1) (pos 1024) p)
     ∷ ask 3 (between (pos 1) (pos 65536) k)
-    ∷ ask 4 (between (pos 1) most a && between (pos 0) most b)
+    ∷ ask 4 (between (pos 1) most a && between least most b)
     ∷ []
 
--- the layout of a mapping that passes questions 1 to 5, or the first question that is answered no
+-- the layout and the lower bound of a mapping that passes its questions, or the first question that is answered no
 unfoldable pub mappedOf : Mapping → Mapped
 mappedOf m =
     let e = firstNo (ofMapping m) in
-    cond (eqb e 0) (By (layoutOf m)) (Refused e)
+    cond (eqb e 0) (By (layoutOf m) (m .lower)) (Refused e)
+
+-- a layout and a lower bound in range
+abbrev pub Ranged : Layout → ℤ → Type 0
+Ranged l lower = Sized l × (natAbs lower ≤ 2147483647)
 
 -- what is known of each case: an accepted layout has every bound
 abbrev pub Sound : Mapped → Type 0
-Sound (By l) = Sized l
+Sound (By l lower) = Ranged l lower
 Sound (Refused q) = 0 < q
 
 abbrev pub refusalIn : Mapped → ℕ
-refusalIn (By l) = 0
+refusalIn (By l lower) = 0
 refusalIn (Refused q) = q
 
 -- ---- the cases of each answer as the paper's numbers; every other field of a refusal is 0
@@ -57,10 +62,10 @@ ownedAs (owned.At q x) = record { refusal = 0; processor = q; address = x .0 }
 ownedAs (owned.Refused e) = noOwner e
 
 abbrev pub notFound : ℕ → GoingBackAnswer
-notFound e = record { refusal = e; index = 0 }
+notFound e = record { refusal = e; index = pos 0 }
 
 abbrev pub foundAs : Found → GoingBackAnswer
-foundAs (found.At i) = record { refusal = 0; index = i .0 }
+foundAs (found.At j) = record { refusal = 0; index = j .0 }
 foundAs (found.Refused e) = notFound e
 
 abbrev pub notCounted : ℕ → LocalCountAnswer
@@ -72,15 +77,17 @@ countedAs (counted.Refused e) = notCounted e
 
 -- ---- what is left to ask of an accepted layout, and the answer
 
-unfoldable pub ownershipIn : Layout → ℤ → OwnershipAnswer
-ownershipIn l i =
-    cond (isBelow (pos (l .size)) i) (record { refusal = 0; processor = ownerOf l (nat i); address = rank (ownerOf l) (nat i) })
+unfoldable pub ownershipIn : Layout → ℤ → ℤ → OwnershipAnswer
+ownershipIn l lower j =
+    let i = nat (j -ℤ lower) in
+    cond (between lower (lower +ℤ pos (l .size) -ℤ pos 1) j)
+    (record { refusal = 0; processor = ownerOf l i; address = rank (ownerOf l) i })
     (noOwner 9)
 
-unfoldable pub goingBackIn : Layout → ℤ → ℤ → GoingBackAnswer
-goingBackIn l q x =
-    let i = backTo (ownerOf l) (l .size) (nat q) (nat x) in
-    let asked = cond (isBelow (pos (held (ownerOf l) (l .size) (nat q))) x) (record { refusal = 0; index = i }) (notFound 9) in
+unfoldable pub goingBackIn : Layout → ℤ → ℤ → ℤ → GoingBackAnswer
+goingBackIn l lower q x =
+    let j = lower +ℤ pos (backTo (ownerOf l) (l .size) (nat q) (nat x)) in
+    let asked = cond (isBelow (pos (held (ownerOf l) (l .size) (nat q))) x) (record { refusal = 0; index = j }) (notFound 9) in
     cond (isBelow (pos (l .processors)) q) asked (notFound 8)
 
 unfoldable pub localCountIn : Layout → ℤ → LocalCountAnswer

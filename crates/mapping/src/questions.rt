@@ -1,11 +1,12 @@
-// Questions 1 to 5, on whatever numbers a caller passes, and the layout of a mapping that
-// passes them.
+// Questions 1 to 5 and 15, on whatever numbers a caller passes, and the layout of a mapping
+// that passes them.
 ghost use mathlib.Core.Path.{_≡_};
 ghost use Prim.Native.Nat.{_≤_};
-ghost use lib.IntN.{pos};
+ghost use lib.IntN.{pos, natAbs, _+ℤ_, _-ℤ_, _*ℤ_};
 ghost use Rattle.model.specs.Ownership.{nat};
-ghost use Rattle.model.specs.Questions.{between, isBelow, cellsFit, firstNo, ofMapping};
+ghost use Rattle.model.specs.Questions.{between, isBelow, boundsFit, cellsFit, firstNo, ofMapping};
 ghost use Rattle.mapping.specs.Answers.{mappingOf, ofDealing, mappedOf, Sound, refusalIn};
+ghost use Rattle.mapping.specs.Bounds.{Aligned, Reached};
 use model::Layout;
 use model::Mapping;
 
@@ -58,26 +59,67 @@ fn dealing_refusal(t: i64, p: i64, k: i64, a: i64, b: i64) -> u32
     if !within(1, MOST, a) {
         return 4;
     }
-    if !within(0, MOST, b) {
+    if !within(-MOST, MOST, b) {
         return 4;
     }
     0
 }
 
-// Is there no element, or is the last one's cell below t?
-fn cells_fit(t: u64, a: u64, b: u64, n: u64) -> bool
-    requires { ⌜ (a ≤ 2147483647) × (b ≤ 2147483647) × (n ≤ 2147483647) ⌝ }
-    ensures { λ r. ⌜ r ≡ cellsFit (mappingOf (pos t) (pos 1) (pos 1) (pos a) (pos b) (pos n)) ⌝ }
+// The last of n numbers from lower on.
+pub fn last_of(lower: i64, n: i64) -> i64
+    requires { ⌜ (natAbs lower ≤ 2147483647) × (natAbs n ≤ 2147483647) ⌝ }
+    ensures { λ r. ⌜ r ≡ lower +ℤ n -ℤ pos 1 ⌝ }
+{
+    lower + n - 1
+}
+
+// Question 15, of a template of t cells from origin on and an array of n elements from
+// lower on. An array of none has no last index.
+fn bounds_fit(t: i64, n: i64, lower: i64, origin: i64) -> bool
+    requires { ⌜ (natAbs t ≤ 2147483647) × (natAbs n ≤ 2147483647) ⌝ }
+    ensures { λ r. ⌜ r ≡ boundsFit (mappingOf t (pos 1) (pos 1) (pos 1) (pos 0) n lower origin) ⌝ }
+{
+    if !within(-MOST, MOST, lower) {
+        return false;
+    }
+    if !within(-MOST, MOST, origin) {
+        return false;
+    }
+    if !within(-MOST, MOST, last_of(origin, t)) {
+        return false;
+    }
+    if n < 1 {
+        return true;
+    }
+    within(-MOST, MOST, last_of(lower, n))
+}
+
+// The cell under declared index j, which may lie outside the template.
+fn cell_under(a: i64, b: i64, origin: i64, j: i64) -> i64
+    requires { ⌜ Aligned a b origin j ⌝ }
+    ensures { λ r. ⌜ r ≡ a *ℤ j +ℤ b -ℤ origin ⌝ }
+{
+    a * j + b - origin
+}
+
+// Question 5, second half: is there no element, or do the first one's cell and the last
+// one's lie in a template of t cells?
+fn cells_fit(t: i64, a: i64, b: i64, n: i64, lower: i64, origin: i64) -> bool
+    requires { ⌜ Reached a b n lower origin ⌝ }
+    ensures { λ r. ⌜ r ≡ cellsFit (mappingOf t (pos 1) (pos 1) a b n lower origin) ⌝ }
 {
     if n < 1 {
         return true;
     }
-    a * (n - 1) + b < t
+    if cell_under(a, b, origin, lower) < 0 {
+        return false;
+    }
+    cell_under(a, b, origin, last_of(lower, n)) < t
 }
 
-// The first of questions 1 to 5 that is answered no, or 0.
-fn first_refusal(t: i64, p: i64, k: i64, a: i64, b: i64, n: i64) -> u32
-    ensures { λ r. ⌜ r ≡ firstNo (ofMapping (mappingOf t p k a b n)) ⌝ }
+// The first of questions 1 to 5 that is answered no, or 0; 15 stands between the halves of 5.
+fn first_refusal(t: i64, p: i64, k: i64, a: i64, b: i64, n: i64, lower: i64, origin: i64) -> u32
+    ensures { λ r. ⌜ r ≡ firstNo (ofMapping (mappingOf t p k a b n lower origin)) ⌝ }
 {
     let dealing = dealing_refusal(t, p, k, a, b);
     if dealing != 0 {
@@ -86,41 +128,55 @@ fn first_refusal(t: i64, p: i64, k: i64, a: i64, b: i64, n: i64) -> u32
     if !within(0, MOST, n) {
         return 5;
     }
-    if !cells_fit(natural(t), natural(a), natural(b), natural(n)) {
+    if !bounds_fit(t, n, lower, origin) {
+        return 15;
+    }
+    if !cells_fit(t, a, b, n, lower, origin) {
         return 5;
     }
     0
 }
 
-// A mapping's layout, or the number of the question that was answered no.
+// A mapping's layout and its array's lower bound, or the number of the question that was
+// answered no.
 pub enum Mapped {
-    By(Layout),
+    By(Layout, i64),
     Refused(u32),
 }
 
-fn mapped_of(t: i64, p: i64, k: i64, a: i64, b: i64, n: i64) -> Mapped
-    ensures { λ r. ⌜ r ≡ mappedOf (mappingOf t p k a b n) ⌝ }
+fn mapped_of(t: i64, p: i64, k: i64, a: i64, b: i64, n: i64, lower: i64, origin: i64) -> Mapped
+    ensures { λ r. ⌜ r ≡ mappedOf (mappingOf t p k a b n lower origin) ⌝ }
     ensures { λ r. ⌜ Sound r ⌝ }
 {
-    let q = first_refusal(t, p, k, a, b, n);
+    let q = first_refusal(t, p, k, a, b, n, lower, origin);
     if q != 0 {
         return Mapped::Refused(q);
     }
-    Mapped::By(Layout {
+    let l = Layout {
         cells: natural(t),
         processors: natural(p),
         block: natural(k),
         stride: natural(a),
-        offset: natural(b),
+        offset: natural(cell_under(a, b, origin, lower)),
         size: natural(n),
-    })
+    };
+    Mapped::By(l, lower)
 }
 
 pub fn ask_mapping(m: Mapping) -> Mapped
     ensures { λ r. ⌜ r ≡ mappedOf m ⌝ }
     ensures { λ r. ⌜ Sound r ⌝ }
 {
-    mapped_of(m.cells, m.processors, m.block, m.stride, m.offset, m.size)
+    mapped_of(
+        m.cells,
+        m.processors,
+        m.block,
+        m.stride,
+        m.offset,
+        m.size,
+        m.lower,
+        m.origin,
+    )
 }
 
 // The refusal's number, and 0 for a layout.
@@ -128,7 +184,7 @@ pub fn refusal_of(m: Mapped) -> u32
     ensures { λ r. ⌜ r ≡ refusalIn m ⌝ }
 {
     match m {
-        Mapped::By(_) => 0,
+        Mapped::By(_, _) => 0,
         Mapped::Refused(q) => q,
     }
 }

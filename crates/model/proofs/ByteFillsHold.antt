@@ -20,7 +20,7 @@ use Rattle.model.specs.Filling.{Walk, Filled, stopped, wrote, fillBy}
 use Rattle.model.specs.Questions.{firstNo, ofSection}
 use Rattle.model.specs.Calls.{FillCall, walkOf, fill}
 use Rattle.model.specs.ByteFills.{ByteFill, inWords, storeEntries, bytesAfter, outcomeOf}
-use Rattle.model.proofs.QuestionLaws.{accepted}
+use Rattle.model.proofs.AcceptedLaws.{accepted}
 use Rattle.model.proofs.FillCalls.{fill-cases}
 use Rattle.model.proofs.SectionLaws.{index-lt}
 use Rattle.model.proofs.AddressLaws.{owns-of}

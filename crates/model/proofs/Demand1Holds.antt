@@ -75,7 +75,7 @@ pub demand1 : Demand1
 unfolding ownership goingBack localCount sectionSteps firstPlaceAt
 demand1 = record {
   of-ownership = λ m i. either-of _ _ _ (ofMapping m ++ ofIndex m i) refl _ _ refl refl (refl, refl) (refl, (refl, tt));
-  of-going-back = λ m q x. either-of _ _ _ (ofMapping m ++ ofProcessor m q ++ ofAddress m q x) refl _ _ refl refl refl (refl, tt);
+  of-going-back = λ m q x. either-of _ _ _ (ofMapping m ++ ofProcessor m q ++ ofAddress m q x) refl _ _ refl refl refl refl;
   of-local-count = λ m q. either-of _ _ _ (ofMapping m ++ ofProcessor m q) refl _ _ refl refl refl (refl, tt);
   of-section-steps = λ x.
       either-of _ _ _ (ofSection x) refl _ _ (no-refusal (count x) (stepsOf x)) refl refl ((refl, (refl, (refl, (refl, (refl, (refl, tt)))))), refl, refl);

@@ -4,8 +4,10 @@ pub mod StarredHold
 pub mod AddressLaws
 pub mod HeldLaws
 pub mod SizedLaws
-pub mod QuestionLaws
 pub mod TripletLaws
+pub mod BoundLaws
+pub mod QuestionLaws
+pub mod AcceptedLaws
 pub mod Demand2Holds
 pub mod AnsweredLaws
 pub mod AnswerLaws
@@ -35,6 +37,11 @@ pub mod FillBounds
 pub mod Demand3Holds
 -- every call
 pub mod Demand1Holds
+-- declared bounds
+pub mod LinedLaws
+pub mod ZeroBounds
+pub mod ShiftedHolds
+pub mod Document01Holds
 -- transfers
 pub mod TransferLaws
 -- all of it

@@ -9,15 +9,15 @@ use lib.ListN.{length, getD, take, drop, length-map, take-append-drop}
 use Rattle.numbers.specs.Search.{tally}
 use Rattle.numbers.proofs.SearchLaws.{tally-none, listed, found}
 use Rattle.model.specs.declared.Section.{Section}
-use Rattle.model.specs.Ownership.{ownerOf, rank, backTo}
-use Rattle.model.specs.Sections.{layout, count, index, address, ownsAt, places, firstPlace}
+use Rattle.model.specs.Ownership.{fromLower, declaredIndex, ownerOf, rank, backTo}
+use Rattle.model.specs.Sections.{elementAt, layout, count, index, address, ownsAt, places, firstPlace}
 use Rattle.model.specs.Filling.{got, reported}
 use Rattle.model.specs.Questions.{firstNo, ofSection}
 use Rattle.model.specs.Calls.{walkOf}
 use Rattle.model.specs.Demand3.{Form, Fills, outcomes, placeAfter, Reached, StandsFor, InOneList}
-use Rattle.model.proofs.QuestionLaws.{accepted}
+use Rattle.model.proofs.AcceptedLaws.{accepted}
 use Rattle.model.proofs.Demand2Holds.{owner-lt}
-use Rattle.model.proofs.SectionLaws.{index-lt, index-inj}
+use Rattle.model.proofs.SectionLaws.{index-lt, declared-at, index-inj}
 use Rattle.model.proofs.AddressLaws.{owns-of, of-owns, back-rank}
 use Rattle.model.proofs.InTurnLaws.{leads-drop, leads-done}
 use Rattle.model.proofs.SectionFills.{places-lead, Same, section-fills}
@@ -44,11 +44,13 @@ at-place x q j h =
     }
 
 leads-back : (x : Section) → firstNo (ofSection x) ≡ 0 → (q j t : ℕ) → At x q j t
-    → backTo (ownerOf (layout x)) (layout x .size) q (address x t) ≡ index x t
+    → declaredIndex (x .mapping) (backTo (ownerOf (layout x)) (layout x .size) q (address x t)) ≡ elementAt (x .triplet) t
 unfolding address
 leads-back x ok q j t a =
-    ap (λ (o : ℕ). backTo (ownerOf (layout x)) (layout x .size) o (rank (ownerOf (layout x)) (index x t))) (sym (a .owner))
-    ∙ back-rank (ownerOf (layout x)) (layout x .size) (index x t) (index-lt x ok t (a .below))
+    ap (declaredIndex (x .mapping))
+    (ap (λ (o : ℕ). backTo (ownerOf (layout x)) (layout x .size) o (rank (ownerOf (layout x)) (index x t))) (sym (a .owner))
+    ∙ back-rank (ownerOf (layout x)) (layout x .size) (index x t) (index-lt x ok t (a .below)))
+    ∙ declared-at x ok t (a .below)
 
 module _ (f : Form) (same : Same f) (x : Section) (ok : firstNo (ofSection x) ≡ 0) where
   -- fills that reached the count got the addresses of all the processor's elements
@@ -81,11 +83,12 @@ module _ (f : Form) (same : Same f) (x : Section) (ok : firstNo (ofSection x) �
     -- and for no other
     only : (t : ℕ) → t < count x → (q j : ℕ) → StandsFor x lists t q j
         → (q ≡ ownerOf (layout x) (index x t)) × (j ≡ tally (ownsAt x (ownerOf (layout x) (index x t))) t)
+    unfolding index
     only t h q j s =
         let l : j < length (places x q) = rw (all-of q (s .processor), length-map) at (s .entry) in
         let a : At x q j (getD (places x q) j 0) = at-place x q j l in
         let e : getD (places x q) j 0 ≡ t =
-        index-inj x ok _ t (a .below) h (sym (entry q j (s .processor) l .element) ∙ s .element) in
+        index-inj x ok _ t (a .below) h (ap (fromLower (x .mapping)) (sym (entry q j (s .processor) l .element) ∙ s .element)) in
         let b : At x q j t = rw e at a in
         (sym (b .owner), rw (b .owner) (sym (b .nth)))
 

@@ -4,7 +4,7 @@ use Rattle.model.specs.Ownership.{courseCells}
 use Rattle.model.specs.Sections.{layout, count}
 use Rattle.model.specs.Steps.{spread, stepsOf}
 use Rattle.model.specs.Promises.{Accepts, Balanced, Promises}
-use Rattle.model.proofs.QuestionLaws.{accepted}
+use Rattle.model.proofs.AcceptedLaws.{accepted}
 use Rattle.model.proofs.SectionLaws.{spread-pos}
 use Rattle.model.proofs.StepLaws.{step-cases, determinant, never-both}
 use Rattle.model.proofs.WalkLaws.{course}
@@ -14,6 +14,8 @@ use Rattle.model.proofs.Demand1Holds.{demand1}
 use Rattle.model.proofs.Demand2Holds.{demand2}
 use Rattle.model.proofs.Demand3Holds.{demand3, demand3-of-bytes}
 use Rattle.model.proofs.TransferLaws.{assigned}
+use Rattle.model.proofs.ShiftedHolds.{shifted}
+use Rattle.model.proofs.Document01Holds.{as-document-01}
 use Rattle.model.proofs.StarredHold.{starred}
 
 balanced : (x : Section) → Accepts x → Balanced (layout x .block) (spread x) (stepsOf x)
@@ -30,6 +32,8 @@ promises = record {
   owners = demand2;
   there-and-back = there-and-back;
   back-and-there = back-and-there;
+  bounds = shifted;
+  without-bounds = as-document-01;
   steps = balanced;
   word-fills = demand3;
   byte-fills = demand3-of-bytes;

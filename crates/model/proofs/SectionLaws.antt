@@ -5,16 +5,18 @@ use mathlib.Core.Bool.{Bool, true, false}
 use native.Mathlib.Nat.{add-mul, mul-add, mul-le-mul-left, mul-le-mul-right, mul-pos, le-trans}
 use native.Mathlib.Omega.{arith}
 use lib.Dec.{ltb}
-use lib.IntN.{ℤ, pos, negsuc, negℤ, natAbs, _+ℤ_, _*ℤ_, zero-*ℤ, +ℤ-idr, pos-ne-negsuc}
+use lib.IntN.{ℤ, pos, negsuc, negℤ, natAbs, _+ℤ_, _-ℤ_, _*ℤ_, zero-*ℤ, +ℤ-idr, pos-ne-negsuc}
 use lib.Signed.{nonNeg}
 use borrow.Author.Tests.{ltb-false, ltb-true, le-ltb}
 use Rattle.model.specs.declared.Section.{Section}
-use Rattle.model.specs.Ownership.{nat, cellOf}
+use Rattle.model.specs.Ownership.{nat, fromLower, declaredIndex, cellOf}
 use Rattle.model.specs.Sections.{elementAt, layout, count, index, cell}
 use Rattle.model.specs.Steps.{spread, upward}
 use Rattle.model.specs.Questions.{firstNo, ofSection}
 use Rattle.model.specs.Demand3.{apart}
-use Rattle.model.proofs.QuestionLaws.{Below, index-is, Accepted, accepted}
+use Rattle.model.proofs.BoundLaws.{swapped, declared-from}
+use Rattle.model.proofs.QuestionLaws.{Below}
+use Rattle.model.proofs.AcceptedLaws.{index-is, Accepted, accepted}
 
 -- ---- integers
 
@@ -53,6 +55,11 @@ unfolding nat
 at-lt (up {L} {m} h) t k = omega (arith, mul-le-mul-right m k)
 at-lt (down {L} {m} h g) t k = rw (minus L (t * suc m) (le-trans (mul-le-mul-right (suc m) k) g)) (omega arith)
 
+at-whole : {n N : ℕ} {l s : ℤ} → Shape n N l s → (t : ℕ) → t ≤ N → elem l s t ≡ pos (nat (elem l s t))
+unfolding nat
+at-whole (up {L} {m} h) t k = refl
+at-whole (down {L} {m} h g) t k = rw (minus L (t * suc m) (le-trans (mul-le-mul-right (suc m) k) g))
+
 -- y lies d above x, or d below it
 abbrev pub Moved : Bool → ℕ → ℕ → ℕ → Type 0
 Moved true x y d = y ≡ x + d
@@ -82,19 +89,36 @@ module _ (x : Section) (ok : firstNo (ofSection x) ≡ 0) where
   unfolding spread
   spread-pos = mul-pos (a .sized .stride-pos) (a .step-pos)
 
-  shaped : 0 < count x → Shape (layout x .size) (count x - 1) (x .triplet .lower) (x .triplet .stride)
-  unfolding elementAt layout
+  -- l counted from 0, and the section's elements from there on
+  from : ℤ
+  from = x .triplet .lower -ℤ x .mapping .lower
+
+  moved-by : (t : ℕ) → elementAt (x .triplet) t -ℤ x .mapping .lower ≡ elem from (x .triplet .stride) t
+  unfolding elementAt from
+  moved-by t = swapped (x .triplet .lower) (x .mapping .lower) (pos t *ℤ x .triplet .stride)
+
+  index-elem : (t : ℕ) → index x t ≡ nat (elem from (x .triplet .stride) t)
+  unfolding index fromLower
+  index-elem t = ap nat (moved-by t)
+
+  shaped : 0 < count x → Shape (layout x .size) (count x - 1) from (x .triplet .stride)
+  unfolding layout
   shaped h =
-      let l = x .triplet .lower in
       let s = x .triplet .stride in
-      shape (layout x .size) (count x - 1) l s
-      (subst (λ (z : ℤ). Below z (layout x .size)) (elem-zero l s) (index-is (x .mapping) (elem l s 0) (a .first-inside h)))
-      (index-is (x .mapping) (elem l s (count x - 1)) (a .last-inside h))
+      shape (layout x .size) (count x - 1) from s
+      (subst (λ (z : ℤ). Below z (layout x .size)) (moved-by 0 ∙ elem-zero from s) (index-is (x .mapping) (elementAt (x .triplet) 0) (a .first-inside h)))
+      (subst (λ (z : ℤ). Below z (layout x .size)) (moved-by (count x - 1)) (index-is (x .mapping) (elementAt (x .triplet) (count x - 1)) (a .last-inside h)))
 
   -- every position holds an element of the array
   pub index-lt : (t : ℕ) → t < count x → index x t < layout x .size
-  unfolding index elementAt
-  index-lt t h = at-lt (shaped (omega arith)) t (omega arith)
+  index-lt t h = rw (index-elem t) (at-lt (shaped (omega arith)) t (omega arith))
+
+  -- and its index leads back to the declared one
+  pub declared-at : (t : ℕ) → t < count x → declaredIndex (x .mapping) (index x t) ≡ elementAt (x .triplet) t
+  unfolding index fromLower
+  declared-at t h =
+      declared-from (x .mapping) (elementAt (x .triplet) t)
+      (moved-by t ∙ at-whole (shaped (omega arith)) t (omega arith) ∙ ap pos (sym (index-elem t)))
 
   pub cell-lt : (t : ℕ) → t < count x → cell x t < layout x .cells
   unfolding cell cellOf
@@ -104,8 +128,8 @@ module _ (x : Section) (ok : firstNo (ofSection x) ≡ 0) where
 
   -- c positions on, the index has moved by c times the size of s, in walking direction
   pub index-moved : (t c : ℕ) → t + c < count x → Moved (upward x) (index x t) (index x (t + c)) (c * natAbs (x .triplet .stride))
-  unfolding index elementAt upward
-  index-moved t c h = at-moved (shaped (omega arith)) t c (omega arith)
+  unfolding upward
+  index-moved t c h = rw (index-elem t, index-elem (t + c)) (at-moved (shaped (omega arith)) t c (omega arith))
 
   -- c positions on, the cell lies c times the spread away, in walking direction
   pub cells-moved : (t c : ℕ) → t + c < count x → Moved (upward x) (cell x t) (cell x (t + c)) (c * spread x)

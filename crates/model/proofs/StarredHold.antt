@@ -2,7 +2,8 @@
 use lib.Dec.{T}
 use Rattle.numbers.specs.Search.{tally, passing, headOr, sum}
 use Rattle.numbers.specs.Gcd.{gcdIn, gcd}
-use Rattle.model.specs.Ownership.{owns, rank, nat, layoutOf, cellOf, cellOwner, courseCells, columnOf, ownerOf}
+use Rattle.model.specs.Ownership.{owns, rank, elementsOf, held, backTo, nat, cellUnder, lastIndex, lastCell, fromLower, declaredIndex}
+use Rattle.model.specs.Ownership.{layoutOf, cellOf, cellOwner, courseCells, columnOf, ownerOf}
 use Rattle.model.specs.Sections.{countOf, elementAt, layout, count, index, cell, address, ownsAt, places, firstPlace}
 use Rattle.model.specs.Steps.{
   processorIndex,
@@ -20,10 +21,10 @@ use Rattle.model.specs.Steps.{
   nextPlace,
 }
 use Rattle.model.specs.Filling.{fillBy, answer, got, paid, standing}
-use Rattle.model.specs.Questions.{firstNo, between, cellsFit, isIndex, inRange, endsFit, isPlace}
-use Rattle.model.specs.Calls.{walkOf, requestOf, fill, sectionSteps}
+use Rattle.model.specs.Questions.{firstNo, between, boundsFit, cellsFit, isIndex, inRange, endsFit, isPlace}
+use Rattle.model.specs.Calls.{ownership, goingBack, walkOf, requestOf, fill, sectionSteps}
 use Rattle.model.specs.Starred.{every, table}
 
 pub starred : T (every table)
-unfolding table tally passing headOr sum gcdIn gcd owns rank nat layoutOf cellOf cellOwner courseCells columnOf ownerOf countOf elementAt layout count index cell address ownsAt places firstPlace processorIndex returnIndex processorStep returnStep oneStep stepsBy spread stepsOf upward going cost nextBy nextPlace fillBy answer got paid standing firstNo between cellsFit isIndex inRange endsFit isPlace walkOf requestOf fill sectionSteps
+unfolding table tally passing headOr sum gcdIn gcd owns rank elementsOf held backTo nat cellUnder lastIndex lastCell fromLower declaredIndex layoutOf cellOf cellOwner courseCells columnOf ownerOf countOf elementAt layout count index cell address ownsAt places firstPlace processorIndex returnIndex processorStep returnStep oneStep stepsBy spread stepsOf upward going cost nextBy nextPlace fillBy answer got paid standing firstNo between boundsFit cellsFit isIndex inRange endsFit isPlace ownership goingBack walkOf requestOf fill sectionSteps
 starred = tt

@@ -15,7 +15,7 @@ use Rattle.model.specs.Ownership.{ownerOf}
 use Rattle.model.specs.Sections.{layout, count, index, ownsAt}
 use Rattle.model.specs.Questions.{firstNo, ofSection}
 use Rattle.model.specs.Transfers.{isEntry, pairPlaces, InPair, InOnePair, sumBelow, entriesInAll, Assigned}
-use Rattle.model.proofs.QuestionLaws.{accepted}
+use Rattle.model.proofs.AcceptedLaws.{accepted}
 use Rattle.model.proofs.Demand2Holds.{owner-lt}
 use Rattle.model.proofs.AddressLaws.{owns-of, of-owns}
 

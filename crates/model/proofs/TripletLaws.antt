@@ -41,7 +41,7 @@ le-sign (negsuc a) (pos b) = refl
 le-sign (negsuc a) (negsuc b) = leb-suc b a ∙ sub-sign (suc b) (suc a)
 
 -- a sum's part may go to the other side
-le-up : (l z h : ℤ) → leZ (l +ℤ z) h ≡ leZ z (h -ℤ l)
+pub le-up : (l z h : ℤ) → leZ (l +ℤ z) h ≡ leZ z (h -ℤ l)
 le-up l z h =
     le-sign (l +ℤ z) h ∙ ap (λ (w : ℤ). nonNeg (h +ℤ w)) (negℤ-+ℤ l z) ∙ ap nonNeg (sym (+ℤ-assoc h (negℤ l) (negℤ z)))
     ∙ sym (le-sign z (h -ℤ l))

@@ -18,7 +18,7 @@ use Rattle.model.specs.Ownership.{courseCells, ownerOf}
 use Rattle.model.specs.Sections.{layout, count, index, cell, ownsAt}
 use Rattle.model.specs.Steps.{stepsBy, spread, stepsOf, upward, going, isPast, nextBy, nextPlace}
 use Rattle.model.specs.Questions.{firstNo, ofSection}
-use Rattle.model.proofs.QuestionLaws.{accepted}
+use Rattle.model.proofs.AcceptedLaws.{accepted}
 use Rattle.model.proofs.SectionLaws.{Moved, spread-pos, cells-moved}
 use Rattle.model.proofs.AddressLaws.{owns-of, of-owns, unowned}
 use Rattle.model.proofs.Rests.{le-or-lt}

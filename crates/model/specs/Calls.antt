@@ -10,7 +10,7 @@ use Rattle.model.specs.declared.Section.{Section}
 use Rattle.model.specs.declared.Step.{Step}
 use Rattle.model.specs.declared.Steps.{Steps}
 use Rattle.model.specs.declared.Steps.the-variants.{NoStep, OneStep, TwoSteps}
-use Rattle.model.specs.Ownership.{nat, layoutOf, ownerOf, rank, held, backTo}
+use Rattle.model.specs.Ownership.{nat, fromLower, declaredIndex, layoutOf, ownerOf, rank, held, backTo}
 use Rattle.model.specs.Sections.{count, address, firstPlace}
 use Rattle.model.specs.Steps.{stepsOf, cost, nextPlace}
 use Rattle.model.specs.Filling.{Walk, Request, Outcome, answer}
@@ -23,24 +23,24 @@ pub record OwnershipAnswer : Type 0 where
   pub processor : ℕ
   pub address : ℕ
 
--- processor and local address of element i
+-- processor and local address of the element of declared index j
 unfoldable pub ownership : Mapping → ℤ → OwnershipAnswer
-ownership m i =
-    let e = firstNo (ofMapping m ++ ofIndex m i) in
+ownership m j =
+    let e = firstNo (ofMapping m ++ ofIndex m j) in
     let o = ownerOf (layoutOf m) in
-    cond (eqb e 0) (record { refusal = 0; processor = o (nat i); address = rank o (nat i) })
+    cond (eqb e 0) (record { refusal = 0; processor = o (fromLower m j); address = rank o (fromLower m j) })
     (record { refusal = e; processor = 0; address = 0 })
 
 pub record GoingBackAnswer : Type 0 where
   pub refusal : ℕ
-  pub index : ℕ
+  pub index : ℤ
 
--- the element at an address of processor q
+-- the declared index of the element at an address of processor q
 unfoldable pub goingBack : Mapping → ℤ → ℤ → GoingBackAnswer
 goingBack m q a =
     let e = firstNo (ofMapping m ++ ofProcessor m q ++ ofAddress m q a) in
-    cond (eqb e 0) (record { refusal = 0; index = backTo (ownerOf (layoutOf m)) (nat (m .size)) (nat q) (nat a) })
-    (record { refusal = e; index = 0 })
+    let i = backTo (ownerOf (layoutOf m)) (nat (m .size)) (nat q) (nat a) in
+    cond (eqb e 0) (record { refusal = 0; index = declaredIndex m i }) (record { refusal = e; index = pos 0 })
 
 pub record LocalCountAnswer : Type 0 where
   pub refusal : ℕ

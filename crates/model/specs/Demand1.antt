@@ -9,7 +9,7 @@ use lib.IntN.{ℤ, pos}
 use lib.ListN.{take}
 use Rattle.model.specs.declared.Mapping.{Mapping}
 use Rattle.model.specs.declared.Section.{Section}
-use Rattle.model.specs.Ownership.{nat, layoutOf, ownerOf, rank, held, backTo}
+use Rattle.model.specs.Ownership.{nat, fromLower, declaredIndex, layoutOf, ownerOf, rank, held, backTo}
 use Rattle.model.specs.Sections.{count, firstPlace}
 use Rattle.model.specs.Steps.{stepsOf}
 use Rattle.model.specs.Filling.{Filled, fillBy}
@@ -70,14 +70,14 @@ pub record Decides (s : List ℕ) (b : Bool) : Type 0 where
 -- ---- every call
 
 pub record Demand1 : Type 0 where
-  pub of-ownership : (m : Mapping) (i : ℤ)
-      → Answers (ownership m i) (λ a. a .refusal) (ofMapping m ++ ofIndex m i)
-      (λ a. (a .processor ≡ ownerOf (layoutOf m) (nat i)) × (a .address ≡ rank (ownerOf (layoutOf m)) (nat i)))
+  pub of-ownership : (m : Mapping) (j : ℤ)
+      → Answers (ownership m j) (λ a. a .refusal) (ofMapping m ++ ofIndex m j)
+      (λ a. (a .processor ≡ ownerOf (layoutOf m) (fromLower m j)) × (a .address ≡ rank (ownerOf (layoutOf m)) (fromLower m j)))
       (λ a. Zeros (a .processor ∷ a .address ∷ []))
   pub of-going-back : (m : Mapping) (q x : ℤ)
       → Answers (goingBack m q x) (λ a. a .refusal) (ofMapping m ++ ofProcessor m q ++ ofAddress m q x)
-      (λ a. a .index ≡ backTo (ownerOf (layoutOf m)) (nat (m .size)) (nat q) (nat x))
-      (λ a. Zeros (a .index ∷ []))
+      (λ a. a .index ≡ declaredIndex m (backTo (ownerOf (layoutOf m)) (nat (m .size)) (nat q) (nat x)))
+      (λ a. a .index ≡ pos 0)
   pub of-local-count : (m : Mapping) (q : ℤ)
       → Answers (localCount m q) (λ a. a .refusal) (ofMapping m ++ ofProcessor m q)
       (λ a. a .elements ≡ held (ownerOf (layoutOf m)) (nat (m .size)) (nat q))

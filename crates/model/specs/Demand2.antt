@@ -3,13 +3,15 @@ use Prim.Native.Nat.{ℕ, _+_, _*_, _/_, _%_, _<_}
 use mathlib.Core.Path.{_≡_}
 use mathlib.Core.Logic.{_↔_}
 use mathlib.Core.Bool.{Bool, true}
-use lib.IntN.{ℤ, pos, negsuc}
+use lib.IntN.{ℤ, pos, negsuc, _+ℤ_, _-ℤ_, _*ℤ_}
 use lib.ListN.{length}
 use lib.Signed.{leZ}
+use Rattle.model.specs.declared.Mapping.{Mapping}
 use Rattle.model.specs.declared.Triplet.{Triplet}
 use Rattle.model.specs.declared.Section.{Section}
-use Rattle.model.specs.Ownership.{ownerOf, rank, elementsOf, held, backTo}
+use Rattle.model.specs.Ownership.{fromLower, declaredIndex, layoutOf, ownerOf, rank, elementsOf, held, backTo}
 use Rattle.model.specs.Sections.{layout, countOf, elementAt}
+use Rattle.model.specs.Questions.{isIndex}
 
 -- "without a gap": each number from 0 to one below the processor's number of elements is the address of one of its elements,
 -- and of no other
@@ -43,9 +45,21 @@ notPast (negsuc s) h z = leZ h z
 pub record Fortran95 (x : Triplet) : Type 0 where
   pub elements : (t : ℕ) → (t < countOf x) ↔ (notPast (x .stride) (x .upper) (elementAt x t) ≡ true)
 
+-- the element of declared index j
+pub record Element (m : Mapping) (j : ℤ) : Type 0 where
+  pub cell : ℕ
+  -- "declared index j sits on declared cell a·j + b", which is cell a·j + b − Lt of the template
+  pub sits : pos cell ≡ m .stride *ℤ j +ℤ m .offset -ℤ m .origin
+  pub below : cell < layoutOf m .cells
+  -- "the owner of an element is HPF 2.0's": floor((a·j + b − Lt) / k) mod p
+  pub owner : ownerOf (layoutOf m) (fromLower m j) ≡ cell / layoutOf m .block % layoutOf m .processors
+  -- of the n indices it is one, La the first of them
+  pub index : fromLower m j < layoutOf m .size
+  pub back : declaredIndex m (fromLower m j) ≡ j
+
 -- Demand 2, of a section that every question about it passed
 pub record Demand2 (x : Section) : Type 0 where
-  -- "the owner of an element is HPF 2.0's": floor((a·i + b) / k) mod p
-  pub owner : (i : ℕ) → ownerOf (layout x) i ≡ (layout x .stride * i + layout x .offset) / layout x .block % layout x .processors
+  pub element : (j : ℤ) → isIndex (x .mapping) j ≡ true → Element (x .mapping) j
+  pub each-declared : (i : ℕ) → i < layout x .size → isIndex (x .mapping) (declaredIndex (x .mapping) i) ≡ true
   pub addresses : Addressed (ownerOf (layout x)) (layout x .processors) (layout x .size)
   pub section : Fortran95 (x .triplet)

@@ -12,8 +12,8 @@ use Rattle.numbers.specs.Search.{headOr, sum}
 use Rattle.model.specs.declared.Section.{Section}
 use Rattle.model.specs.declared.Steps.{Steps}
 use Rattle.model.specs.declared.Steps.the-variants.{NoStep, OneStep, TwoSteps}
-use Rattle.model.specs.Ownership.{ownerOf, backTo}
-use Rattle.model.specs.Sections.{layout, count, index, cell, places, firstPlace}
+use Rattle.model.specs.Ownership.{declaredIndex, ownerOf, backTo}
+use Rattle.model.specs.Sections.{elementAt, layout, count, cell, places, firstPlace}
 use Rattle.model.specs.Steps.{cost, stepsOf}
 use Rattle.model.specs.Filling.{Walk, Request, Outcome, answer, got, reported, paid, standing, allowed}
 use Rattle.model.specs.Questions.{between}
@@ -114,7 +114,7 @@ Reached f x runs =
 pub record StandsFor (x : Section) (lists : ℕ → List ℕ) (t q j : ℕ) : Type 0 where
   pub processor : q < layout x .processors
   pub entry : j < length (lists q)
-  pub element : backTo (ownerOf (layout x)) (layout x .size) q (getD (lists q) j 0) ≡ index x t
+  pub element : declaredIndex (x .mapping) (backTo (ownerOf (layout x)) (layout x .size) q (getD (lists q) j 0)) ≡ elementAt (x .triplet) t
 
 -- the element at position t stands in exactly one list, exactly once
 pub record InOneList (x : Section) (lists : ℕ → List ℕ) (t : ℕ) : Type 0 where

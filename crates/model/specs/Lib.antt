@@ -12,5 +12,7 @@ pub mod Sheets
 pub mod Demand1
 pub mod Demand2
 pub mod Demand3
+pub mod Document01
+pub mod Shifted
 pub mod Starred
 pub mod Promises

@@ -19,6 +19,8 @@ use Rattle.model.specs.Transfers.{Assigned}
 use Rattle.model.specs.Demand1.{Demand1}
 use Rattle.model.specs.Demand2.{Demand2}
 use Rattle.model.specs.Demand3.{inWordLists, inByteLists, Demand3}
+use Rattle.model.specs.Document01.{AsDocument01}
+use Rattle.model.specs.Shifted.{Shifted}
 use Rattle.model.specs.Starred.{every, table}
 
 -- "a section is accepted if every question that concerns its mapping and itself is answered yes"
@@ -38,11 +40,14 @@ pub record Promises : Type 0 where
   -- demand 2, and the calls of it undo each other
   pub owners : (x : Section) → Accepts x → Demand2 x
   pub there-and-back :
-      (m : Mapping) (i : ℤ) → ownership m i .refusal ≡ 0
-      → goingBack m (pos (ownership m i .processor)) (pos (ownership m i .address)) ≡ record { refusal = 0; index = nat i }
+      (m : Mapping) (j : ℤ) → ownership m j .refusal ≡ 0
+      → goingBack m (pos (ownership m j .processor)) (pos (ownership m j .address)) ≡ record { refusal = 0; index = j }
   pub back-and-there :
       (m : Mapping) (q x : ℤ) → goingBack m q x .refusal ≡ 0
-      → ownership m (pos (goingBack m q x .index)) ≡ record { refusal = 0; processor = nat q; address = nat x }
+      → ownership m (goingBack m q x .index) ≡ record { refusal = 0; processor = nat q; address = nat x }
+  -- declared bounds shift indices, and nothing else; without them every answer is document 01's
+  pub bounds : Shifted
+  pub without-bounds : AsDocument01
   -- the two steps of a section
   pub steps : (x : Section) → Accepts x → Balanced (layout x .block) (spread x) (stepsOf x)
   -- demand 3, of fills into words and into bytes

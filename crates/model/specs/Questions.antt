@@ -1,15 +1,15 @@
--- Document 01, "Questions, in order": 1 to 11. Definitions only.
+-- Document 01, "Questions, in order": 1 to 11, and document 02's 15 between the halves of 5. Definitions only.
 use Prim.Native.Nat.{ℕ, _-_}
 use mathlib.Core.Path.{_≡_}
 use mathlib.Core.Bool.{Bool, true, not, cond, _&&_, _||_}
 use mathlib.Core.List.{List, [], _∷_, _++_}
 use lib.Dec.{ltb, eqb}
-use lib.IntN.{ℤ, pos, negsuc, natAbs, _+ℤ_, _-ℤ_, _*ℤ_}
+use lib.IntN.{ℤ, pos, negsuc, natAbs}
 use lib.Signed.{leZ, ltZ}
 use Rattle.model.specs.declared.Mapping.{Mapping}
 use Rattle.model.specs.declared.Triplet.{Triplet}
 use Rattle.model.specs.declared.Section.{Section}
-use Rattle.model.specs.Ownership.{nat, layoutOf, ownerOf, held}
+use Rattle.model.specs.Ownership.{nat, cellUnder, lastIndex, lastCell, layoutOf, ownerOf, held}
 use Rattle.model.specs.Sections.{elementAt, count, ownsAt}
 
 pub record Question : Type 0 where
@@ -43,21 +43,32 @@ most = pos 2147483647
 abbrev pub least : ℤ
 least = negsuc 2147483646
 
--- 5, second half: if n is at least 1, is a·(n − 1) + b below T?
+-- 15: are the lower bounds, the template's last declared cell and, if n is at least 1, the array's last declared index in
+-- range?
+unfoldable pub boundsFit : Mapping → Bool
+boundsFit m =
+    between least most (m .lower) && between least most (m .origin) && between least most (lastCell m)
+    && (ltZ (m .size) (pos 1) || between least most (lastIndex m))
+
+-- 5, second half: if n is at least 1, is the first element's cell 0 or more, and the last one's below T?
 unfoldable pub cellsFit : Mapping → Bool
-cellsFit m = ltZ (m .size) (pos 1) || ltZ (m .stride *ℤ (m .size -ℤ pos 1) +ℤ m .offset) (m .cells)
+cellsFit m =
+    ltZ (m .size) (pos 1) || (leZ (pos 0) (cellUnder m (m .lower)) && ltZ (cellUnder m (lastIndex m)) (m .cells))
 
 abbrev pub ofMapping : Mapping → List Question
 ofMapping m =
     ask 1 (between (pos 1) most (m .cells))
     ∷ ask 2 (between (pos 1) (pos 1024) (m .processors))
     ∷ ask 3 (between (pos 1) (pos 65536) (m .block))
-    ∷ ask 4 (between (pos 1) most (m .stride) && between (pos 0) most (m .offset))
-    ∷ ask 5 (between (pos 0) most (m .size) && cellsFit m)
+    ∷ ask 4 (between (pos 1) most (m .stride) && between least most (m .offset))
+    ∷ ask 5 (between (pos 0) most (m .size))
+    ∷ ask 15 (boundsFit m)
+    ∷ ask 5 (cellsFit m)
     ∷ []
 
+-- is z a declared index, from La to La + n − 1?
 unfoldable pub isIndex : Mapping → ℤ → Bool
-isIndex m z = isBelow (m .size) z
+isIndex m z = between (m .lower) (lastIndex m) z
 
 -- 6: are l, h and s in range, and is s not 0?
 unfoldable pub inRange : Triplet → Bool
@@ -79,7 +90,7 @@ ofSection x = ofMapping (x .mapping) ++ ofTriplet x
 abbrev pub ofProcessor : Mapping → ℤ → List Question
 ofProcessor m q = ask 8 (isBelow (m .processors) q) ∷ []
 
--- 9, of an element's index, and going back of an address on a processor
+-- 9, of a declared index, and going back of an address on a processor
 abbrev pub ofIndex : Mapping → ℤ → List Question
 ofIndex m i = ask 9 (isIndex m i) ∷ []
 

@@ -8,13 +8,13 @@ use Rattle.numbers.specs.Search.{passing, headOr}
 use Rattle.model.specs.declared.Triplet.{Triplet}
 use Rattle.model.specs.declared.Layout.{Layout}
 use Rattle.model.specs.declared.Section.{Section}
-use Rattle.model.specs.Ownership.{nat, layoutOf, cellOf, ownerOf, owns, rank}
+use Rattle.model.specs.Ownership.{nat, fromLower, layoutOf, cellOf, ownerOf, owns, rank}
 
 -- "count": max(0, (h − l + s) / s truncated towards zero)
 unfoldable pub countOf : Triplet → ℕ
 countOf x = nat (quotZ (x .upper -ℤ x .lower +ℤ x .stride) (x .stride))
 
--- position t holds element l + t·s
+-- position t holds the element of declared index l + t·s
 unfoldable pub elementAt : Triplet → ℕ → ℤ
 elementAt x t = x .lower +ℤ pos t *ℤ x .stride
 
@@ -26,9 +26,9 @@ layout x = layoutOf (x .mapping)
 unfoldable pub count : Section → ℕ
 count x = countOf (x .triplet)
 
--- the index, the cell and the local address of the element at position t
+-- the index from 0, the cell and the local address of the element at position t
 unfoldable pub index : Section → ℕ → ℕ
-index x t = nat (elementAt (x .triplet) t)
+index x t = fromLower (x .mapping) (elementAt (x .triplet) t)
 
 unfoldable pub cell : Section → ℕ → ℕ
 cell x t = cellOf (layout x) (index x t)

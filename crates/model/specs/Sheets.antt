@@ -18,12 +18,14 @@ pub record TemplateLine : Type 0 where
   pub processors : ℤ
   pub block : ℤ
 
--- a line `template a b n`
+-- a line `template a b n La Lt`
 pub record ArrayLine : Type 0 where
   pub template : ℕ
   pub stride : ℤ
   pub offset : ℤ
   pub size : ℤ
+  pub lower : ℤ
+  pub origin : ℤ
 
 -- a line `array l h s`
 pub record SectionLine : Type 0 where
@@ -40,7 +42,7 @@ abbrev pub templateNumbers : TemplateLine → List ℤ
 templateNumbers x = x .cells ∷ x .processors ∷ x .block ∷ []
 
 abbrev pub arrayNumbers : ArrayLine → List ℤ
-arrayNumbers x = pos (x .template) ∷ x .stride ∷ x .offset ∷ x .size ∷ []
+arrayNumbers x = pos (x .template) ∷ x .stride ∷ x .offset ∷ x .size ∷ x .lower ∷ x .origin ∷ []
 
 abbrev pub sectionNumbers : SectionLine → List ℤ
 sectionNumbers x = pos (x .array) ∷ x .triplet .lower ∷ x .triplet .upper ∷ x .triplet .stride ∷ []
@@ -140,7 +142,7 @@ abbrev pub noTemplate : TemplateLine
 noTemplate = record { cells = pos 0; processors = pos 0; block = pos 0 }
 
 abbrev pub noArray : ArrayLine
-noArray = record { template = 0; stride = pos 0; offset = pos 0; size = pos 0 }
+noArray = record { template = 0; stride = pos 0; offset = pos 0; size = pos 0; lower = pos 0; origin = pos 0 }
 
 abbrev pub noSection : SectionLine
 noSection = record { array = 0; triplet = record { lower = pos 0; upper = pos 0; stride = pos 0 } }
@@ -156,6 +158,8 @@ sectionBy t a x =
         stride = a .stride;
         offset = a .offset;
         size = a .size;
+        lower = a .lower;
+        origin = a .origin;
       };
       triplet = x .triplet;
     }

@@ -1,4 +1,4 @@
--- What a yes to questions 1 to 5 says of a layout's numbers.
+-- What a yes to questions 1 to 5 says of a layout's numbers. Of the offset of an array without elements it says nothing.
 use Prim.Native.Nat.{_+_, _-_, _*_, _≤_, _<_}
 use Rattle.model.specs.declared.Layout.{Layout}
 
@@ -11,6 +11,5 @@ pub record Sized (m : Layout) : Type 0 where
   pub block-high : m .block ≤ 65536
   pub stride-pos : 0 < m .stride
   pub stride-high : m .stride ≤ 2147483647
-  pub offset-high : m .offset ≤ 2147483647
   pub size-high : m .size ≤ 2147483647
   pub inside : 1 ≤ m .size → m .stride * (m .size - 1) + m .offset < m .cells

@@ -12,11 +12,11 @@ use Rattle.model.specs.declared.Section.{Section}
 use Rattle.model.specs.declared.Step.{Step}
 use Rattle.model.specs.declared.Steps.{Steps}
 use Rattle.model.specs.declared.Steps.the-variants.{NoStep, OneStep, TwoSteps}
-use Rattle.model.specs.Sections.{count, index, firstPlace}
+use Rattle.model.specs.Sections.{elementAt, count, firstPlace}
 use Rattle.model.specs.Steps.{stepsOf}
 use Rattle.model.specs.Filling.{got, paid, standing}
-use Rattle.model.specs.Questions.{firstNo, ofSection}
-use Rattle.model.specs.Calls.{FillCall, fill, StepReport, SectionStepsAnswer, sectionSteps}
+use Rattle.model.specs.Questions.{firstNo, ofMapping, ofSection}
+use Rattle.model.specs.Calls.{ownership, goingBack, FillCall, fill, StepReport, SectionStepsAnswer, sectionSteps}
 
 -- ---- equality, as a test
 
@@ -49,8 +49,13 @@ sameSteps (TwoSteps a c) (TwoSteps b d) = sameStep a b && sameStep c d
 -- ---- rows
 
 pub data Row : Type 0 where
-  -- a section has this refusal and these elements
-  elements : Section → ℕ → List ℕ → Row
+  -- a mapping has this refusal
+  mapping : Mapping → ℕ → Row
+  -- the element of a declared index has this refusal, processor and address; and going back this refusal and declared index
+  owned : Mapping → ℤ → ℕ → ℕ → ℕ → Row
+  found : Mapping → ℕ → ℕ → ℕ → ℤ → Row
+  -- a section has this refusal and these elements, by their declared indices
+  elements : Section → ℕ → List ℤ → Row
   -- a section has these steps
   steps : Section → Steps → Row
   -- the call for a section's steps answers these numbers: its refusal, the count, how many steps, and of each its cells, its
@@ -74,7 +79,15 @@ runFrom x q t (z ∷ zs) =
     c ∷ runFrom x q (standing t (fill c ∷ [])) zs
 
 abbrev pub holds : Row → Bool
-holds (elements x e xs) = eqb (firstNo (ofSection x)) e && sameList (map (index x) (passing (λ t. true) 0 (count x))) xs
+holds (mapping m e) = eqb (firstNo (ofMapping m)) e
+holds (owned m j e q a) =
+    let r = ownership m j in
+    sameList (r .refusal ∷ r .processor ∷ r .address ∷ []) (e ∷ q ∷ a ∷ [])
+holds (found m q a e j) =
+    let r = goingBack m (pos q) (pos a) in
+    sameNumbers (pos (r .refusal) ∷ r .index ∷ []) (pos e ∷ j ∷ [])
+holds (elements x e js) =
+    eqb (firstNo (ofSection x)) e && sameNumbers (map (elementAt (x .triplet)) (passing (λ t. true) 0 (count x))) js
 holds (steps x s) = sameSteps (stepsOf x) s
 holds (report x zs) = sameNumbers (reportNumbers (sectionSteps x)) zs
 holds (fills x q t quotas xs tries next) =
@@ -89,7 +102,12 @@ every (r ∷ rs) = holds r && every rs
 
 abbrev mapped : ℕ → ℕ → ℕ → ℕ → ℕ → ℕ → Mapping
 mapped T p k a b n =
-    record { cells = pos T; processors = pos p; block = pos k; stride = pos a; offset = pos b; size = pos n }
+    record { cells = pos T; processors = pos p; block = pos k; stride = pos a; offset = pos b; size = pos n; lower = pos 0; origin = pos 0 }
+
+-- the same with declared bounds
+abbrev bounded : ℕ → ℕ → ℕ → ℕ → ℤ → ℕ → ℤ → ℤ → Mapping
+bounded T p k a b n La Lt =
+    record { cells = pos T; processors = pos p; block = pos k; stride = pos a; offset = b; size = pos n; lower = La; origin = Lt }
 
 abbrev on : Mapping → ℤ → ℤ → ℤ → Section
 on m l h s = record { mapping = m; triplet = record { lower = l; upper = h; stride = s } }
@@ -112,6 +130,14 @@ single = on (mapped 12 3 2 1 0 12) (pos 0) (pos 11) (pos 6)
 -- our own: 0:90:7 with its elements moved on by 5 cells
 abbrev offset : Section
 offset = on (mapped 96 3 4 1 5 91) (pos 0) (pos 90) (pos 7)
+
+-- document 02, A1: A(1:100) aligned with T(2*j-2), T(0:199)
+abbrev fromOne : Mapping
+fromOne = bounded 200 3 4 2 (negsuc 1) 100 (pos 1) (pos 0)
+
+-- our own: A(-3:20) aligned with T(j), T(-5:26)
+abbrev fromBelow : Mapping
+fromBelow = bounded 32 3 4 1 (pos 0) 24 (negsuc 2) (negsuc 4)
 
 abbrev ofSize : ℕ → ℤ → ℤ → ℤ → Section
 ofSize n l h s = on (mapped 12 3 2 1 0 n) l h s
@@ -142,9 +168,9 @@ table =
     ∷ fills single 1 2 (100 ∷ []) [] 0 2
     ∷ fills single 2 2 (100 ∷ []) [] 0 2
     ∷ elements (ofSize 0 (pos 5) (pos 1) (pos 3)) 0 []
-    ∷ elements (ofSize 10 (pos 9) (pos 0) (negsuc 3)) 0 (9 ∷ 5 ∷ 1 ∷ [])
-    ∷ elements (ofSize 8 (pos 0) (pos 10) (pos 7)) 0 (0 ∷ 7 ∷ [])
-    ∷ elements (ofSize 8 (pos 0) (pos 14) (pos 7)) 7 (0 ∷ 7 ∷ 14 ∷ [])
+    ∷ elements (ofSize 10 (pos 9) (pos 0) (negsuc 3)) 0 (pos 9 ∷ pos 5 ∷ pos 1 ∷ [])
+    ∷ elements (ofSize 8 (pos 0) (pos 10) (pos 7)) 0 (pos 0 ∷ pos 7 ∷ [])
+    ∷ elements (ofSize 8 (pos 0) (pos 14) (pos 7)) 7 (pos 0 ∷ pos 7 ∷ pos 14 ∷ [])
     -- our own: 5:4:3 has no elements
     ∷ elements (ofSize 8 (pos 5) (pos 4) (pos 3)) 0 []
     -- a second fill goes on where the first one stopped, also after a refused one, and a quota may end inside a list
@@ -161,4 +187,27 @@ table =
     ∷ fills lone 1 0 (100 ∷ []) (1 ∷ []) 1 1
     -- a refused section has no count and no steps
     ∷ report (ofSize 8 (pos 0) (pos 14) (pos 7)) (pos 7 ∷ pos 0 ∷ pos 0 ∷ pos 0 ∷ pos 0 ∷ pos 0 ∷ pos 0 ∷ pos 0 ∷ pos 0 ∷ [])
+    -- declared bounds
+    ∷ owned fromOne (pos 1) 0 0 0
+    ∷ owned fromOne (pos 100) 0 1 33
+    ∷ owned fromOne (pos 0) 9 0 0
+    ∷ found fromOne 1 33 0 (pos 100)
+    ∷ found fromOne 1 34 9 (pos 0)
+    ∷ fills (on fromOne (pos 1) (pos 100) (pos 7)) 0 0 (100 ∷ []) (0 ∷ 3 ∷ 14 ∷ 17 ∷ 28 ∷ 31 ∷ []) 9 15
+    ∷ fills (on fromOne (pos 1) (pos 100) (pos 7)) 1 2 (100 ∷ []) (4 ∷ 7 ∷ 18 ∷ 21 ∷ 32 ∷ []) 7 15
+    ∷ elements (on fromOne (pos 0) (pos 10) (pos 5)) 7 (pos 0 ∷ pos 5 ∷ pos 10 ∷ [])
+    -- a negative lower bound, and a section that goes down
+    ∷ owned fromBelow (negsuc 2) 0 0 0
+    ∷ owned fromBelow (pos 20) 0 0 7
+    ∷ found fromBelow 0 0 0 (negsuc 2)
+    ∷ found fromBelow 1 1 0 (pos 0)
+    ∷ elements (on fromBelow (pos 20) (negsuc 2) (negsuc 9)) 0 (pos 20 ∷ pos 10 ∷ pos 0 ∷ [])
+    ∷ steps (on fromBelow (pos 20) (negsuc 2) (negsuc 4)) (TwoSteps (step 15 1 3) (step 10 1 2))
+    ∷ fills (on fromBelow (pos 20) (negsuc 2) (negsuc 4)) 0 0 (100 ∷ []) (7 ∷ 5 ∷ []) 3 5
+    ∷ fills (on fromBelow (pos 20) (negsuc 2) (negsuc 4)) 2 1 (100 ∷ []) (4 ∷ 2 ∷ []) 5 5
+    -- 15 stands before the cells of 5, and is asked of an array without elements too
+    ∷ mapping (bounded 10 1 1 1 (pos 0) 2 (pos 2147483647) (pos 0)) 15
+    ∷ mapping (bounded 2 1 1 1 (pos 0) 0 (pos 0) (pos 2147483647)) 15
+    ∷ mapping (bounded 10 1 1 1 (negsuc 0) 2 (pos 0) (pos 0)) 5
+    ∷ mapping (bounded 10 1 1 1 (negsuc 0) 2 (pos 1) (pos 0)) 0
     ∷ []

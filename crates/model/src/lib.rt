@@ -12,7 +12,11 @@ pub struct Address(pub u64);
 
 pub struct Position(pub u64);
 
-// A mapping as a caller passes it: T, p, k, a, b and n of document 01.
+// An element's index as the program declares it, from the array's lower bound on.
+pub struct Declared(pub i64);
+
+// A mapping as a caller passes it: T, p, k, a, b and n of document 01, and the lower bounds that
+// the program declares, the array's (La) and the template's (Lt).
 pub struct Mapping {
     pub cells: i64,
     pub processors: i64,
@@ -20,9 +24,12 @@ pub struct Mapping {
     pub stride: i64,
     pub offset: i64,
     pub size: i64,
+    pub lower: i64,
+    pub origin: i64,
 }
 
-// A mapping that passed its questions, as natural numbers.
+// A mapping that passed its questions, as natural numbers: elements count from 0, and the
+// offset is the first one's cell.
 pub struct Layout {
     pub cells: u64,
     pub processors: u64,

@@ -15,7 +15,7 @@ use Rattle.print.specs.Giving.{Received, Gives, Waits, toGive}
 use Rattle.print.proofs.PrintsLaws.{prints-unique, cut-prints}
 
 -- what was read decides the print
-module _ (s buffer : List ℕ) (n : ℕ) (more : 7305 < length buffer) (h : Received s buffer n) where
+module _ (s buffer : List ℕ) (n : ℕ) (more : 8841 < length buffer) (h : Received s buffer n) where
   received-prints : {t : List ℕ} → Prints (take n buffer) t → Prints s t
   received-prints {t} p =
       ⊎-elim (λ l. cut-prints s (length buffer) more l read)

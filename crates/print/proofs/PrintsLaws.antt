@@ -1,4 +1,4 @@
--- What is printed for some bytes is one text and no other; and the first 7,306 bytes of a longer sheet decide it.
+-- What is printed for some bytes is one text and no other; and the first 8,842 bytes of a longer sheet decide it.
 use Prim.Native.Nat.{ℕ, _≤_, _<_}
 use mathlib.Core.Path.{_≡_, refl, ap}
 use mathlib.Core.List.{List}
@@ -22,6 +22,6 @@ prints-unique s (formed w p) (malformed n h) = absurd (h .refused w p)
 prints-unique s (malformed n h) (formed w p) = absurd (h .refused w p)
 prints-unique s (malformed n h) (malformed m k) = ap sheetLine (place-unique s n m h k)
 
-pub cut-prints : (s : List ℕ) (m : ℕ) → 7305 < m → m ≤ length s → {t : List ℕ} → Prints (take m s) t → Prints s t
+pub cut-prints : (s : List ℕ) (m : ℕ) → 8841 < m → m ≤ length s → {t : List ℕ} → Prints (take m s) t → Prints s t
 cut-prints s m more within (formed w p) = formed w (is-formed (cut-reads s m more within (reads.formed p)) refl)
 cut-prints s m more within (malformed n h) = malformed n (is-malformed (cut-reads s m more within (reads.malformed h)) refl .0)

@@ -21,11 +21,11 @@ pub use pieces::Opened;
 pub use pieces::Piece;
 
 // The first piece, from a buffer to whose front n bytes of the input were read. No sheet has more
-// than 7,305 bytes, so that 7,306 decide what is printed for a longer input. Where the print is cut
+// than 8,841 bytes, so that 8,842 decide what is printed for a longer input. Where the print is cut
 // into pieces is open, and so are the bytes of `out` after a piece: whoever writes one piece after
 // the other depends on neither.
 pub fn begin(sheet: &[u8], n: usize, out: &mut [u8]) -> Opened
-    requires { ⌜ (7306 ≤ length (now sheet)) × (n ≤ length (now sheet)) × (64 ≤ length (now out)) ⌝ }
+    requires { ⌜ (8842 ≤ length (now sheet)) × (n ≤ length (now sheet)) × (64 ≤ length (now out)) ⌝ }
     ensures { λ r. ⌜ Waits (now (out .exit)) (r .piece) ⌝ }
     ensures { λ r. ⌜ ((s : List ℕ) → Received s (now (sheet .entry)) n
         → Gives s [] (r .content) (now (out .exit)) (r .piece)) ⌝ }

@@ -12,7 +12,8 @@ use Rattle.model.specs.Ownership.{nat}
 use Rattle.model.specs.Sections.{layout, firstPlace}
 use Rattle.model.specs.Questions.{firstNo, isBelow, ofSection, ofProcessor}
 use Rattle.model.specs.Calls.{stepsReport, sectionSteps, PlaceAnswer, firstPlaceAt}
-use Rattle.model.proofs.QuestionLaws.{mapping-yes, whole-mapping, all-yes, asks-on, stops}
+use Rattle.model.proofs.QuestionLaws.{all-yes, asks-on, stops}
+use Rattle.model.proofs.AcceptedLaws.{mapping-yes, whole-mapping}
 use Rattle.section.specs.declared.questions.Strided.{Strided}
 use Rattle.section.specs.declared.questions.Asked.the-variants.{By, Refused}
 use Rattle.section.specs.Strides.{stridedOf, placeIn, stepsIn}

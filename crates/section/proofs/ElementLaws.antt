@@ -112,7 +112,6 @@ module _ (w : Strided) (b : Bounded w) (some : 0 < w .count) where
         block-high = z .block-high;
         stride-pos = stride-range .0;
         stride-high = stride-range .1;
-        offset-high = omega (arith, line-inside, z .cells-high);
         size-high = b .count-high;
         inside = λ h. line-inside;
       }

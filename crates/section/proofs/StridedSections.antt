@@ -13,7 +13,7 @@ use Rattle.model.specs.Ownership.{cellOf, ownerOf, owns, rank}
 use Rattle.model.specs.Sections.{layout, count, index, cell, address, ownsAt, places, firstPlace}
 use Rattle.model.specs.Steps.{spread, stepsOf, upward}
 use Rattle.model.specs.Questions.{firstNo, ofSection}
-use Rattle.model.proofs.QuestionLaws.{Accepted, accepted}
+use Rattle.model.proofs.AcceptedLaws.{Accepted, accepted}
 use Rattle.model.proofs.SectionLaws.{Moved, index-lt, index-moved, spread-high}
 use Rattle.section.specs.Strides.{stridedOf, Bounded, moved, indexAt, cellAt, ownedAt, placeIn, stepsIn}
 

@@ -1,24 +1,26 @@
 -- Questions 6 and 7 of a triplet on a layout, from the answers put one after the other.
-use Prim.Native.Nat.{ℕ, _+_, _*_, _≤_, zero-le}
-use mathlib.Core.Path.{_≡_, refl, ap, _∙_}
-use mathlib.Core.Bool.{true, false}
+use Prim.Native.Nat.{ℕ, _+_, _-_, _*_, _≤_, zero-le}
+use mathlib.Core.Path.{_≡_, refl, sym, ap, _∙_}
+use mathlib.Core.Bool.{Bool, true, false, cond, _&&_, _||_}
 use native.Mathlib.Nat.{div-le-of-le-mul, le-mul-of-pos-right, le-refl}
 use native.Mathlib.Omega.{arith}
+use lib.Dec.{eqb}
 use borrow.Author.Tests.{le-leb}
 use lib.IntN.{ℤ, pos, negsuc, natAbs, _+ℤ_, _-ℤ_, _*ℤ_, zero-*ℤ, +ℤ-idr}
 use lib.Signed.{quotZ, leZ, nonNeg}
 use Rattle.numbers.proofs.Signed.{size-add, size-sub, size-quot}
 use Rattle.model.specs.declared.Layout.{Layout}
 use Rattle.model.specs.declared.Section.{Section}
-use Rattle.model.specs.Ownership.{nat, layoutOf}
+use Rattle.model.specs.Ownership.{nat, fromLower}
 use Rattle.model.specs.Sections.{countOf, elementAt, layout, count, index}
 use Rattle.model.specs.Steps.{upward}
-use Rattle.model.specs.Questions.{firstNo, inRange, isIndex, endsFit}
-use Rattle.model.proofs.QuestionLaws.{Ranged, ranged}
-use Rattle.section.specs.declared.questions.Strided.{Strided}
+use Rattle.model.specs.Questions.{firstNo, isBelow, inRange, isIndex, endsFit, ofMapping, ofTriplet}
+use Rattle.model.proofs.BoundLaws.{swapped, index-from}
+use Rattle.model.proofs.QuestionLaws.{all-yes, asks-on}
+use Rattle.model.proofs.AcceptedLaws.{Ranged, ranged, whole-mapping}
 use Rattle.section.specs.declared.questions.Asked.the-variants.{By, Refused}
 use Rattle.section.specs.Strides.{tripletOf, endsIn, stridedOf}
-use Rattle.section.specs.Answers.{sectionOf, tripletAsked}
+use Rattle.section.specs.Answers.{askedBy, stridedIn, askedIn, askedOf}
 
 nat-le : (z : ℤ) → nat z ≤ natAbs z
 unfolding nat
@@ -53,34 +55,58 @@ up-sign : (s : ℤ) → leZ (pos 0) s ≡ nonNeg s
 up-sign (pos n) = le-leb 0 n zero-le
 up-sign (negsuc n) = refl
 
-module _ (m : Layout) (l h s : ℤ) where
-  abbrev x : Section
-  x = sectionOf m l h s
-
-  abbrev n : ℕ
-  n = countOf (tripletOf l h s)
-
-  ends-same : endsFit x ≡ endsIn (m .size) l s n
-  unfolding endsFit isIndex count elementAt
-  ends-same = rw (first-element l s)
-
-  pub range-refused : inRange (tripletOf l h s) ≡ false → Refused 6 ≡ tripletAsked x
-  unfolding tripletAsked firstNo
+-- the three answers to questions 6 and 7
+module _ (m : Layout) (lower l h s : ℤ) where
+  pub range-refused : inRange (tripletOf l h s) ≡ false → Refused 6 ≡ askedIn m lower l h s
+  unfolding askedIn
   range-refused e = rw e
 
   module _ (ok : inRange (tripletOf l h s) ≡ true) where
-    pub ends-refused : endsIn (m .size) l s n ≡ false → Refused 7 ≡ tripletAsked x
-    unfolding tripletAsked firstNo
-    ends-refused e = rw (ok, ends-same ∙ e)
+    pub ends-refused : endsIn (m .size) (l -ℤ lower) s (countOf (tripletOf l h s)) ≡ false → Refused 7 ≡ askedIn m lower l h s
+    unfolding askedIn
+    ends-refused e = rw (ok, e)
 
-    -- the section, as it is worked out from the layout and the triplet
-    abbrev pub worked : Strided
-    worked = record { layout = m; count = n; first = nat l; stride = natAbs s; upward = leZ (pos 0) s }
+    pub triplet-accepted : endsIn (m .size) (l -ℤ lower) s (countOf (tripletOf l h s)) ≡ true
+        → By (stridedIn m lower l h s) ≡ askedIn m lower l h s
+    unfolding askedIn
+    triplet-accepted e = rw (ok, e)
 
-    strided-is : worked ≡ stridedOf x
-    unfolding stridedOf layout layoutOf nat count index elementAt upward
-    strided-is = rw (first-element l s, up-sign s)
+-- they are those of a section whose mapping passed
+module _ (x : Section) (ok : firstNo (ofMapping (x .mapping)) ≡ 0) where
+  abbrev l : ℤ
+  l = x .triplet .lower
 
-    pub triplet-accepted : endsIn (m .size) l s n ≡ true → By worked ≡ tripletAsked x
-    unfolding tripletAsked firstNo
-    triplet-accepted e = rw (ok, ends-same ∙ e, ← strided-is)
+  abbrev s : ℤ
+  s = x .triplet .stride
+
+  index-below : (z : ℤ) → isIndex (x .mapping) (l +ℤ z) ≡ isBelow (pos (layout x .size)) (l -ℤ x .mapping .lower +ℤ z)
+  unfolding layout
+  index-below z =
+      index-from (x .mapping) (l +ℤ z)
+      ∙ (λ i. isBelow (whole-mapping (x .mapping) ok .size i) (swapped l (x .mapping .lower) z i))
+
+  ends-same : endsFit x ≡ endsIn (layout x .size) (l -ℤ x .mapping .lower) s (count x)
+  unfolding endsFit elementAt
+  ends-same =
+      let first : isIndex (x .mapping) (l +ℤ pos 0 *ℤ s) ≡ isBelow (pos (layout x .size)) (l -ℤ x .mapping .lower) =
+      index-below (pos 0 *ℤ s) ∙ ap (isBelow (pos (layout x .size))) (first-element (l -ℤ x .mapping .lower) s) in
+      λ i. eqb (count x) 0 || (first i && index-below (pos (count x - 1) *ℤ s) i)
+
+  strided-same : stridedIn (layout x) (x .mapping .lower) l (x .triplet .upper) s ≡ stridedOf x
+  unfolding stridedOf count index elementAt fromLower upward
+  strided-same =
+      let first : nat (l -ℤ x .mapping .lower) ≡ nat (l +ℤ pos 0 *ℤ s -ℤ x .mapping .lower) =
+      ap (λ (z : ℤ). nat (z -ℤ x .mapping .lower)) (sym (first-element l s)) in
+      λ i. record { layout = layout x; count = count x; first = first i; stride = natAbs s; upward = up-sign s i }
+
+  decided : (ranged ends : Bool) → cond ranged (cond ends (By (stridedOf x)) (Refused 7)) (Refused 6) ≡ askedBy x (cond ranged (cond ends 0 7) 6)
+  decided true true = refl
+  decided true false = refl
+  decided false ends = refl
+
+  pub go-on : askedIn (layout x) (x .mapping .lower) l (x .triplet .upper) s ≡ askedOf x
+  unfolding askedIn askedOf firstNo count
+  go-on =
+      (λ i. cond (inRange (x .triplet)) (cond (sym ends-same i) (By (strided-same i)) (Refused 7)) (Refused 6))
+      ∙ decided (inRange (x .triplet)) (endsFit x)
+      ∙ ap (askedBy x) (sym (asks-on (ofMapping (x .mapping)) (ofTriplet x) (all-yes (ofMapping (x .mapping)) refl ok)))

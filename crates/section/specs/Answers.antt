@@ -2,40 +2,46 @@
 use Prim.Native.Nat.{ℕ, _≤_, _<_}
 use mathlib.Core.Bool.{Bool, true, false, cond}
 use lib.Dec.{eqb}
-use lib.IntN.{ℤ, pos}
+use lib.IntN.{ℤ, pos, natAbs, _-ℤ_}
+use lib.Signed.{leZ}
 use Rattle.model.specs.declared.Layout.{Layout}
 use Rattle.model.specs.declared.Section.{Section}
 use Rattle.model.specs.declared.Step.{Step}
 use Rattle.model.specs.declared.Steps.{Steps}
 use Rattle.model.specs.declared.Steps.the-variants.{NoStep, OneStep, TwoSteps}
 use Rattle.model.specs.Ownership.{nat}
-use Rattle.model.specs.Questions.{isBelow, firstNo, ofTriplet, ofSection}
+use Rattle.model.specs.Sections.{countOf}
+use Rattle.model.specs.Questions.{isBelow, inRange, firstNo, ofSection}
 use Rattle.model.specs.Calls.{StepReport, noReport, forward, backward, SectionStepsAnswer, PlaceAnswer}
 use Rattle.section.specs.declared.questions.Asked.{Asked}
 use Rattle.section.specs.declared.questions.Asked.the-variants.{By, Refused}
-use Rattle.mapping.specs.Answers.{mappingOf}
 use Rattle.section.specs.declared.questions.Strided.{Strided}
 use Rattle.section.specs.declared.report.Reported.{Reported}
 use Rattle.section.specs.declared.report.SectionSteps.{SectionSteps}
 use Rattle.section.specs.declared.report.SectionSteps.the-variants as steps
 use Rattle.section.specs.declared.place.Placed.{Placed}
 use Rattle.section.specs.declared.place.Placed.the-variants as placed
-use Rattle.section.specs.Strides.{tripletOf, stridedOf, Bounded, placeIn}
+use Rattle.section.specs.Strides.{tripletOf, endsIn, stridedOf, Bounded, placeIn}
 
 -- the section if its questions, of which e is the first that is answered no, passed
 abbrev pub askedBy : Section → ℕ → Asked
 askedBy x e = cond (eqb e 0) (By (stridedOf x)) (Refused e)
 
--- l:h:s of an array whose mapping is a layout's
-abbrev pub sectionOf : Layout → ℤ → ℤ → ℤ → Section
-sectionOf m l h s = record {
-  mapping = mappingOf (pos (m .cells)) (pos (m .processors)) (pos (m .block)) (pos (m .stride)) (pos (m .offset)) (pos (m .size));
-  triplet = tripletOf l h s;
+-- l:h:s on a layout whose first index is lower
+abbrev pub stridedIn : Layout → ℤ → ℤ → ℤ → ℤ → Strided
+stridedIn m lower l h s = record {
+  layout = m;
+  count = countOf (tripletOf l h s);
+  first = nat (l -ℤ lower);
+  stride = natAbs s;
+  upward = leZ (pos 0) s;
 }
 
--- questions 6 and 7, and 1 to 7
-unfoldable pub tripletAsked : Section → Asked
-tripletAsked x = askedBy x (firstNo (ofTriplet x))
+-- questions 6 and 7 of it, and 1 to 7 of a section
+unfoldable pub askedIn : Layout → ℤ → ℤ → ℤ → ℤ → Asked
+askedIn m lower l h s =
+    let ends = endsIn (m .size) (l -ℤ lower) s (countOf (tripletOf l h s)) in
+    cond (inRange (tripletOf l h s)) (cond ends (By (stridedIn m lower l h s)) (Refused 7)) (Refused 6)
 
 unfoldable pub askedOf : Section → Asked
 askedOf x = askedBy x (firstNo (ofSection x))

@@ -19,7 +19,7 @@ use Rattle.section.specs.declared.questions.Strided.{Strided}
 abbrev pub tripletOf : ℤ → ℤ → ℤ → Triplet
 tripletOf l h s = record { lower = l; upper = h; stride = s }
 
--- question 7, of an array of n elements and a section of c, from l by s
+-- question 7, of an array of n elements and a section of c, from l by s, l counted from 0
 abbrev pub endsIn : ℕ → ℤ → ℤ → ℕ → Bool
 endsIn n l s c = eqb c 0 || (isBelow (pos n) l && isBelow (pos n) (l +ℤ pos (c - 1) *ℤ s))
 

@@ -19,7 +19,7 @@ pub fn count_of(l: i64, h: i64, s: i64) -> u64
 
 // The element at position t.
 pub fn element_at(l: i64, s: i64, t: u64) -> i64
-    requires { ⌜ (natAbs l ≤ 2147483647) × (natAbs s ≤ 2147483647) × (t ≤ 4294967295) ⌝ }
+    requires { ⌜ (natAbs l ≤ 4294967294) × (natAbs s ≤ 2147483647) × (t ≤ 4294967295) ⌝ }
     ensures { λ r. ⌜ r ≡ l +ℤ pos t *ℤ s ⌝ }
 {
     l + (t as i64) * s

@@ -5,7 +5,7 @@ ghost use Prim.Native.Nat.{_≤_};
 ghost use lib.IntN.{pos, natAbs};
 ghost use Rattle.model.specs.Questions.{isBelow, inRange};
 ghost use Rattle.section.specs.Strides.{tripletOf, endsIn};
-ghost use Rattle.section.specs.Answers.{askedOf, tripletAsked, sectionOf, Sound};
+ghost use Rattle.section.specs.Answers.{askedOf, askedIn, Sound};
 use crate::count::count_of;
 use crate::count::element_at;
 use crate::count::size_of;
@@ -36,9 +36,10 @@ fn in_range(l: i64, h: i64, s: i64) -> bool
     s != 0
 }
 
-// Question 7, of an array of n elements and a section of c. An empty one has no ends.
+// Question 7, of an array of n elements and a section of c, from index l on, which counts
+// from 0. An empty one has no ends.
 fn ends_in(n: u64, l: i64, s: i64, c: u64) -> bool
-    requires { ⌜ (natAbs l ≤ 2147483647) × (natAbs s ≤ 2147483647) × (c ≤ 4294967295) ⌝ }
+    requires { ⌜ (natAbs l ≤ 4294967294) × (natAbs s ≤ 2147483647) × (c ≤ 4294967295) ⌝ }
     ensures { λ r. ⌜ r ≡ endsIn n l s c ⌝ }
 {
     if c == 0 {
@@ -50,8 +51,8 @@ fn ends_in(n: u64, l: i64, s: i64, c: u64) -> bool
     is_below(element_at(l, s, c - 1), n)
 }
 
-// A section that passed its questions: its count, the index of its first element, the size
-// of s, and whether the section goes up.
+// A section that passed its questions: its count, the index from 0 of its first element, the
+// size of s, and whether the section goes up.
 pub struct Strided {
     pub layout: Layout,
     pub count: u64,
@@ -66,21 +67,24 @@ pub enum Asked {
     Refused(u32),
 }
 
-// Questions 6 and 7, and the section that passes them.
-fn triplet_asked(m: Layout, l: i64, h: i64, s: i64) -> Asked
-    ensures { λ r. ⌜ r ≡ tripletAsked (sectionOf m l h s) ⌝ }
+// Questions 6 and 7, of an array whose first index is lower, and the section that passes
+// them.
+fn triplet_asked(m: Layout, lower: i64, l: i64, h: i64, s: i64) -> Asked
+    requires { ⌜ natAbs lower ≤ 2147483647 ⌝ }
+    ensures { λ r. ⌜ r ≡ askedIn m lower l h s ⌝ }
 {
     if !in_range(l, h, s) {
         return Asked::Refused(6);
     }
     let c = count_of(l, h, s);
-    if !ends_in(m.size, l, s, c) {
+    let first = l - lower;
+    if !ends_in(m.size, first, s, c) {
         return Asked::Refused(7);
     }
     Asked::By(Strided {
         layout: m,
         count: c,
-        first: natural(l),
+        first: natural(first),
         stride: size_of(s),
         upward: 0 <= s,
     })
@@ -94,7 +98,7 @@ pub fn ask_section(x: Section) -> Asked
     let m = x.mapping;
     let t = x.triplet;
     match ask_mapping(m) {
-        Mapped::By(l) => triplet_asked(l, t.lower, t.upper, t.stride),
+        Mapped::By(l, lower) => triplet_asked(l, lower, t.lower, t.upper, t.stride),
         Mapped::Refused(q) => Asked::Refused(q),
     }
 }

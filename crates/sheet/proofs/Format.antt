@@ -105,16 +105,16 @@ module _ {A C : Type 0} {TA : A → List ℕ → Type 0} {rA : List ℕ → Got 
           let (p, q, (a, v, w), z) = stuck f e in
           (p, q, (to a, v, up a (p ++ v) w), stops-behind rA (via to rA) [] (λ x u k. rw k) p t z)
 
--- ---- as many values as a number says
+-- ---- as many values as a number says; a value's texts may depend on how many follow it
 
-abbrev pub Texts : {A : Type 0} → (A → List ℕ → Type 0) → List A → List ℕ → Type 0
+abbrev pub Texts : {A : Type 0} → (ℕ → A → List ℕ → Type 0) → List A → List ℕ → Type 0
 Texts Text [] z = z ≡ []
-Texts Text (a ∷ l) z = (u : List ℕ) × (v : List ℕ) × Text a u × Texts Text l v × (z ≡ u ++ v)
+Texts Text (a ∷ l) z = (u : List ℕ) × (v : List ℕ) × Text (length l) a u × Texts Text l v × (z ≡ u ++ v)
 
-abbrev pub Counted : {A : Type 0} → (A → List ℕ → Type 0) → ℕ → List A → List ℕ → Type 0
+abbrev pub Counted : {A : Type 0} → (ℕ → A → List ℕ → Type 0) → ℕ → List A → List ℕ → Type 0
 Counted Text n l z = (length l ≡ n) × Texts Text l z
 
-module _ {A : Type 0} (Text : A → List ℕ → Type 0) (r : List ℕ → Got A) where
+module _ {A : Type 0} (Text : ℕ → A → List ℕ → Type 0) (r : ℕ → List ℕ → Got A) where
   pub no-rows : Format (Counted Text 0) (rows r 0)
   no-rows = record { some = ([], [], (refl, refl)); complete = full; outcome = λ s. ([], (refl, refl), refl) }
     where
@@ -122,15 +122,17 @@ module _ {A : Type 0} (Text : A → List ℕ → Type 0) (r : List ℕ → Got A
       full [] z (h, e) t = rw e
       full (a ∷ l) z (h, e) t = absurd (omega (arith, h))
 
-  pub rows-format : Format Text r → (n : ℕ) → Format (Counted Text n) (rows r n)
+  pub rows-format : ((n : ℕ) → Format (Text n) (r n)) → (n : ℕ) → Format (Counted Text n) (rows r n)
   rows-format f zero = no-rows
   rows-format f (suc n) = across (Counted Text (suc n)) (λ x. x .0 ∷ x .1)
-      (pair (λ a. Counted Text n) (λ a. rows r n) f (λ a x o. rows-format f n)) up down
+      (pair (λ a. Counted Text n) (λ a. rows r n) (f n) (λ a x o. rows-format f n)) up down
     where
-      up : (x : A × List A) (z : List ℕ) → Two Text (λ a. Counted Text n) x z → Counted Text (suc n) (x .0 ∷ x .1) z
-      up x z (u, v, p, (h, q), e) = (ap suc h, (u, v, p, q, e))
+      up : (x : A × List A) (z : List ℕ) → Two (Text n) (λ a. Counted Text n) x z → Counted Text (suc n) (x .0 ∷ x .1) z
+      up x z (u, v, p, (h, q), e) = (ap suc h, (u, v, rw h p, q, e))
 
-      down : (l : List A) (z : List ℕ) → Counted Text (suc n) l z → (x : A × List A) × Two Text (λ a. Counted Text n) x z
+      down : (l : List A) (z : List ℕ) → Counted Text (suc n) l z → (x : A × List A) × Two (Text n) (λ a. Counted Text n) x z
           × (x .0 ∷ x .1 ≡ l)
       down [] z (h, e) = absurd (omega (arith, h))
-      down (a ∷ l) z (h, (u, v, p, q, e)) = ((a, l), (u, v, p, (omega (arith, h), q), e), refl)
+      down (a ∷ l) z (h, (u, v, p, q, e)) =
+          let same : length l ≡ n = omega (arith, h) in
+          ((a, l), (u, v, rw same at p, (same, q), e), refl)

@@ -9,8 +9,8 @@ pub mod PartLaws
 pub mod SheetLaws
 pub mod AnswerLaws
 pub mod ByteLaws
-pub mod LineLaws
 pub mod RowLaws
+pub mod LineLaws
 pub mod ReadLaws
 pub mod CasesHold
 pub mod LengthLaws

@@ -1,47 +1,47 @@
--- Lines at a place of the sheet: from the answers of their numbers.
-use Prim.Native.Nat.{ℕ, zero, suc, _<_}
-use mathlib.Core.Path.{_≡_, refl}
-use mathlib.Core.List.{List}
+-- A line at a place of the sheet, from its numbers in their rows; and which part has lines.
+use Prim.Native.Nat.{ℕ, zero, suc, _-_, _≤_, _<_}
+use mathlib.Core.Path.{_≡_, refl, sym, _∙_, ap}
+use mathlib.Core.List.{List, _++_}
 use native.Mathlib.Omega.{arith}
-use lib.IntN.{ℤ}
-use lib.ListN.{drop}
+use lib.IntN.{ℤ, pos}
+use lib.ListN.{take, replicate, take-append-drop}
 use denote.Enum.Declared.{tagOf}
+use Rattle.sheet.specs.declared.Line.{Line}
 use Rattle.sheet.specs.declared.part.Part.{Part}
 use Rattle.sheet.specs.declared.part.Part.the-variants.{Templates, Arrays, Sections}
-use Rattle.sheet.specs.Reading.{Got, both}
+use Rattle.sheet.specs.Reading.{Got, mapGot}
 use Rattle.sheet.specs.Numbers.{number}
-use Rattle.sheet.specs.Parts.{three, limitBy, limit, Room, Names}
-use Rattle.sheet.specs.Answers.{found, failed, Answers}
-use Rattle.sheet.proofs.PartLaws.{lineOf}
-use Rattle.sheet.proofs.AnswerLaws.{map-answers, first-failed, first-found}
+use Rattle.sheet.specs.Parts.{endBy, lineOf, limitBy, limit, Room, Names}
+use Rattle.sheet.specs.Answers.{found, Answers}
+use Rattle.sheet.proofs.AnswerLaws.{map-answers, known}
+use Rattle.sheet.proofs.RowLaws.{Filling, all-read, rest-none, kept-row}
 use Rattle.sheet.proofs.part.Part as part-enum
 
-abbrev later : ℕ → List ℕ → Got (ℤ × ℤ)
-later end = both (number 32) (λ b. number end)
+-- the numbers of a line in their rows
+abbrev pub NumberRows : List ℕ → ℕ → Got (List ℤ) → List ℤ → ℕ → ℕ → Type 0
+NumberRows s = Filling (pos 0) 5 s (λ m. number (endBy m))
 
-module _ (name end : ℕ) (x : List ℕ) {s : List ℕ} where
-  pub three-first : {p : ℕ} → Answers s (failed p) (number 32 x) → Answers s (failed p) (three name end x)
-  three-first h = map-answers (lineOf name) (failed _) (first-failed (number 32) (λ a. later end) h)
+-- the numbers that a line lacks are 0
+padded-line : (name : ℕ) (l : List ℤ) (k : ℕ) → lineOf name (l ++ replicate k (pos 0)) ≡ lineOf name l
+padded-line name l k =
+    λ i. record {
+      name = name;
+      first = kept-row (pos 0) l k 0 i;
+      second = kept-row (pos 0) l k 1 i;
+      third = kept-row (pos 0) l k 2 i;
+      fourth = kept-row (pos 0) l k 3 i;
+      fifth = kept-row (pos 0) l k 4 i;
+    }
 
-  module _ {a : ℤ} {k : ℕ} (h : Answers s (found a k) (number 32 x)) where
-    pub three-second : {p : ℕ} → Answers s (failed p) (number 32 (drop k s)) → Answers s (failed p) (three name end x)
-    three-second h′ =
-        map-answers (lineOf name) (failed _)
-        (first-found (number 32) (λ a. later end) (failed _) h (first-failed (number 32) (λ b. number end) h′))
-
-    module _ {b : ℤ} {k′ : ℕ} (h′ : Answers s (found b k′) (number 32 (drop k s))) where
-      pub three-third : {p : ℕ} → Answers s (failed p) (number end (drop k′ s)) → Answers s (failed p) (three name end x)
-      three-third h″ =
-          map-answers (lineOf name) (failed _)
-          (first-found (number 32) (λ a. later end) (failed _) h
-          (first-found (number 32) (λ b. number end) (failed _) h′ h″))
-
-      pub three-read : {c : ℤ} {p : ℕ} → Answers s (found c p) (number end (drop k′ s))
-          → Answers s (found (lineOf name (a, (b, c))) p) (three name end x)
-      three-read {c} {p} h″ =
-          map-answers (lineOf name) (found (a, (b, c)) p)
-          (first-found (number 32) (λ a. later end) (found (b, c) p) h
-          (first-found (number 32) (λ b. number end) (found c p) h′ h″))
+pub line-read : (name : ℕ) {s : List ℕ} {n at i : ℕ} {y : Got (List ℤ)} {v : List ℤ} → NumberRows s n y v at i → n ≤ i
+    → Answers s (found (lineOf name v) at) (mapGot (lineOf name) y)
+line-read name {n = n} {at} {v = v} f h =
+    known (ap (λ (x : Line). found x at) same) (map-answers (lineOf name) (found (take n v) at) (all-read _ _ _ _ _ f h))
+  where
+    same : lineOf name (take n v) ≡ lineOf name v
+    same =
+        sym (padded-line name (take n v) (5 - n))
+        ∙ ap (lineOf name) (ap (λ (l : List ℤ). take n v ++ l) (sym (rest-none _ _ _ _ _ f h)) ∙ take-append-drop n v)
 
 -- ---- which part
 

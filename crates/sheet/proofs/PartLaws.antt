@@ -1,131 +1,155 @@
 -- The readings of lines, of parts and of three parts are formats.
 use Prim.Native.Nat.{ℕ, zero, suc, _≤_, _<_}
-use mathlib.Core.Path.{_≡_, refl, sym, ap, subst}
-use mathlib.Core.List.{List, [], _∷_, _++_, append-assoc}
+use mathlib.Core.Path.{_≡_, refl, sym, _∙_, ap, subst}
+use mathlib.Core.List.{List, [], _∷_, _++_, append-assoc, append-nil}
 use native.Mathlib.Omega.{arith}
 use lib.IntN.{ℤ}
-use lib.ListN.{length}
-use Rattle.model.specs.Sheets.{Small, digitsOf, printNumber}
+use lib.ListN.{length, take}
+use lib.Seq.{length-take-le}
+use Rattle.model.specs.Sheets.{All, Small, digitsOf, printNumber, printLine}
 use Rattle.sheet.specs.declared.Line.{Line}
 use Rattle.sheet.specs.declared.part.Part.{Part}
 use Rattle.sheet.specs.declared.part.Part.the-variants.{Templates, Arrays, Sections}
 use Rattle.sheet.specs.Reading.{both, rows}
 use Rattle.sheet.specs.Numbers.{number}
-use Rattle.sheet.specs.Parts.{three, named, line, limitBy, limit, part, Parts, parts}
+use Rattle.sheet.specs.Parts.{endBy, lineOf, numbered, named, limitBy, limit, lines, part, Parts, parts}
 use Rattle.sheet.proofs.Format.{Format, Two, pair, across, Texts, Counted, no-rows, rows-format}
 use Rattle.sheet.proofs.NaturalLaws.{NaturalText, natural-format}
 use Rattle.sheet.proofs.NumberLaws.{NumberText, number-format}
 
 -- ---- lines
 
--- three numbers of a line that begins with a name, the last one ended by a byte
-pub record ThreeText (name end : ℕ) (x : Line) (z : List ℕ) : Type 0 where
-  pub named : x .name ≡ name
-  pub first : Small (x .first)
-  pub second : Small (x .second)
-  pub third : Small (x .third)
-  pub text : z ≡ printNumber (x .first) ++ 32 ∷ (printNumber (x .second) ++ 32 ∷ (printNumber (x .third) ++ end ∷ []))
-
-abbrev pub lineOf : ℕ → ℤ × (ℤ × ℤ) → Line
-lineOf name x = record { name = name; first = x .0; second = x .1 .0; third = x .1 .1 }
+-- the byte after a number is no digit
+pub end-mark : (m : ℕ) → endBy m < 48
+end-mark zero = omega arith
+end-mark (suc m) = omega arith
 
 abbrev NumberEnd : ℕ → ℤ → List ℕ → Type 0
-NumberEnd = NumberText 2147483648
+NumberEnd m = NumberText 2147483648 (endBy m)
 
-pub three-format : (name end : ℕ) → end < 48 → Format (ThreeText name end) (three name end)
-three-format name end h =
-    across (ThreeText name end) (lineOf name)
-    (pair (λ a. Two (NumberEnd 32) (λ b. NumberEnd end)) (λ a. both (number 32) (λ b. number end))
-    (number-format 32 (omega arith))
-    (λ a u o. pair (λ b. NumberEnd end) (λ b. number end) (number-format 32 (omega arith)) (λ b v p. number-format end h)))
-    up down
+-- the texts of some numbers, one after the other, are their print as a line
+numbers-up : (a : ℤ) (l : List ℤ) (z : List ℕ) → Texts NumberEnd (a ∷ l) z → All Small (a ∷ l) × (z ≡ printLine (a ∷ l))
+numbers-up a [] z (u, v, o, t, e) = ((omega (arith, o .size), tt), rw (e, o .text, t, append-nil))
+numbers-up a (b ∷ l) z (u, v, o, t, e) =
+    let (p, q) = numbers-up b l v t in
+    ((omega (arith, o .size), p), rw (e, o .text, q, append-assoc))
+
+numbers-down : (a : ℤ) (l : List ℤ) → All Small (a ∷ l) → Texts NumberEnd (a ∷ l) (printLine (a ∷ l))
+numbers-down a [] p =
+    (printNumber a ++ 10 ∷ [], [], record { size = omega (arith, p .0); text = refl }, refl, rw append-nil)
+numbers-down a (b ∷ l) p = (
+  printNumber a ++ 32 ∷ [],
+  printLine (b ∷ l),
+  record { size = omega (arith, p .0); text = refl },
+  numbers-down b l (p .1),
+  rw append-assoc,
+)
+
+-- the first n numbers of a line
+abbrev pub numbersOf : ℕ → Line → List ℤ
+numbersOf n x = take n (x .first ∷ x .second ∷ x .third ∷ x .fourth ∷ x .fifth ∷ [])
+
+numbers-back : (name : ℕ) (l : List ℤ) → length l ≤ 5 → numbersOf (length l) (lineOf name l) ≡ l
+numbers-back name [] h = refl
+numbers-back name (a ∷ []) h = refl
+numbers-back name (a ∷ b ∷ []) h = refl
+numbers-back name (a ∷ b ∷ c ∷ []) h = refl
+numbers-back name (a ∷ b ∷ c ∷ d ∷ []) h = refl
+numbers-back name (a ∷ b ∷ c ∷ d ∷ e ∷ []) h = refl
+numbers-back name (a ∷ b ∷ c ∷ d ∷ e ∷ f ∷ l) h = absurd (omega arith)
+
+-- a line of a name, a number and m more
+pub record NumberedText (m name : ℕ) (x : Line) (z : List ℕ) : Type 0 where
+  pub made : lineOf name (numbersOf (suc m) x) ≡ x
+  pub small : All Small (numbersOf (suc m) x)
+  pub text : z ≡ printLine (numbersOf (suc m) x)
+
+numbered-format : (m name : ℕ) → m ≤ 4 → Format (NumberedText m name) (numbered (suc m) name)
+numbered-format m name h =
+    across (NumberedText m name) (lineOf name)
+    (rows-format NumberEnd (λ m. number (endBy m)) (λ m. number-format (endBy m) (end-mark m)) (suc m)) up down
   where
-    Numbers : ℤ × (ℤ × ℤ) → List ℕ → Type 0
-    Numbers = Two (NumberEnd 32) (λ a. Two (NumberEnd 32) (λ b. NumberEnd end))
+    up : (l : List ℤ) (z : List ℕ) → Counted NumberEnd (suc m) l z → NumberedText m name (lineOf name l) z
+    up [] z (k, t) = absurd (omega (arith, k))
+    up (a ∷ l) z (k, t) =
+        let same : numbersOf (suc m) (lineOf name (a ∷ l)) ≡ a ∷ l =
+        subst (λ (n : ℕ). numbersOf n (lineOf name (a ∷ l)) ≡ a ∷ l) k (numbers-back name (a ∷ l) (omega (arith, k))) in
+        let (p, q) = numbers-up a l z t in
+        record { made = ap (lineOf name) same; small = subst (All Small) (sym same) p; text = q ∙ ap printLine (sym same) }
 
-    up : (x : ℤ × (ℤ × ℤ)) (z : List ℕ) → Numbers x z → ThreeText name end (lineOf name x) z
-    up x z (u, v, o, (u′, v′, p, q, e′), e) =
-        record {
-          named = refl;
-          first = omega (arith, o .size);
-          second = omega (arith, p .size);
-          third = omega (arith, q .size);
-          text = simp (e, e′, o .text, p .text, q .text, append-assoc);
-        }
-
-    down : (x : Line) (z : List ℕ) → ThreeText name end x z → (y : ℤ × (ℤ × ℤ)) × Numbers y z × (lineOf name y ≡ x)
+    down : (x : Line) (z : List ℕ) → NumberedText m name x z → (l : List ℤ) × Counted NumberEnd (suc m) l z
+        × (lineOf name l ≡ x)
     down x z t = (
-      (x .first, (x .second, x .third)),
+      numbersOf (suc m) x,
       (
-        printNumber (x .first) ++ 32 ∷ [],
-        (printNumber (x .second) ++ 32 ∷ []) ++ (printNumber (x .third) ++ end ∷ []),
-        record { size = omega (arith, t .first); text = refl },
-        (
-          printNumber (x .second) ++ 32 ∷ [],
-          printNumber (x .third) ++ end ∷ [],
-          record { size = omega (arith, t .second); text = refl },
-          record { size = omega (arith, t .third); text = refl },
-          refl,
-        ),
-        simp (t .text, append-assoc),
+        length-take-le (suc m) (numbersOf 5 x) (omega arith),
+        rw (t .text) (numbers-down (x .first) (take m (x .second ∷ x .third ∷ x .fourth ∷ x .fifth ∷ [])) (t .small)),
       ),
-      ap (λ (n : ℕ). record { name = n; first = x .first; second = x .second; third = x .third }) (sym (t .named)),
+      t .made,
     )
 
--- a line that begins with one of n names
-pub record NamedText (n : ℕ) (x : Line) (z : List ℕ) : Type 0 where
-  pub named : x .name < n
+-- a line that begins with one of some names and goes on with a number and m more
+pub record NamedText (names m : ℕ) (x : Line) (z : List ℕ) : Type 0 where
+  pub named : x .name < names
   pub rest : List ℕ
-  pub three : ThreeText (x .name) 10 x rest
+  pub numbers : NumberedText m (x .name) x rest
   pub text : z ≡ digitsOf (x .name) ++ 32 ∷ rest
 
-pub named-format : (n : ℕ) → 0 < n → Format (NamedText n) (named n)
-named-format n h =
-    across (NamedText n) (λ x. x .1)
-    (pair (λ a. ThreeText a 10) (λ a. three a 10) (natural-format 0 n 32 (omega arith) h (omega arith))
-    (λ a u o. three-format a 10 (omega arith)))
+named-format : (names m : ℕ) → 0 < names → m ≤ 4 → Format (NamedText names m) (named names (suc m))
+named-format names m h k =
+    across (NamedText names m) (λ x. x .1)
+    (pair (NumberedText m) (numbered (suc m)) (natural-format 0 names 32 (omega arith) h (omega arith))
+    (λ a u o. numbered-format m a k))
     up down
   where
-    up : (x : ℕ × Line) (z : List ℕ) → Two (NaturalText 0 n 32) (λ a. ThreeText a 10) x z → NamedText n (x .1) z
+    up : (x : ℕ × Line) (z : List ℕ) → Two (NaturalText 0 names 32) (NumberedText m) x z → NamedText names m (x .1) z
     up x z (u, v, o, t, e) =
-        let same : x .0 ≡ x .1 .name = sym (t .named) in
+        let same : x .0 ≡ x .1 .name = ap (λ (y : Line). y .name) (t .made) in
         record {
-          named = rw (t .named) (o .below);
+          named = rw same at (o .below);
           rest = v;
-          three = subst (λ (a : ℕ). ThreeText a 10 (x .1) v) same t;
+          numbers = subst (λ (a : ℕ). NumberedText m a (x .1) v) same t;
           text = rw (e, o .text, append-assoc, same);
         }
 
-    down : (x : Line) (z : List ℕ) → NamedText n x z → (y : ℕ × Line) × Two (NaturalText 0 n 32) (λ a. ThreeText a 10) y z
-        × (y .1 ≡ x)
+    down : (x : Line) (z : List ℕ) → NamedText names m x z → (y : ℕ × Line)
+        × Two (NaturalText 0 names 32) (NumberedText m) y z × (y .1 ≡ x)
     down x z t = (
       (x .name, x),
       (
         digitsOf (x .name) ++ 32 ∷ [],
         t .rest,
         record { least = omega arith; below = t .named; text = refl },
-        t .three,
+        t .numbers,
         rw (t .text, append-assoc),
       ),
       refl,
     )
 
 abbrev pub LineText : Part → Line → List ℕ → Type 0
-LineText Templates = ThreeText 0 10
-LineText (Arrays n) = NamedText n
-LineText (Sections n) = NamedText n
+LineText Templates = NumberedText 2 0
+LineText (Arrays n) = NamedText n 4
+LineText (Sections n) = NamedText n 2
+
+abbrev pub LinesText : Part → List Line → List ℕ → Type 0
+LinesText k = Texts (λ m. LineText k)
 
 -- ---- parts
 
-named-lines : (m n : ℕ) → n < limitBy m → Format (Counted (NamedText m) n) (rows (named m) n)
-named-lines zero zero h = no-rows (NamedText 0) (named 0)
-named-lines zero (suc n) h = absurd (omega arith)
-named-lines (suc m) n h = rows-format (NamedText (suc m)) (named (suc m)) (named-format (suc m) (omega arith)) n
+-- where there is nothing to name there is no line
+named-lines : (names m : ℕ) → m ≤ 4 → (n : ℕ) → n < limitBy names
+    → Format (Counted (λ i. NamedText names m) n) (rows (λ i. named names (suc m)) n)
+named-lines zero m k zero h = no-rows (λ i. NamedText 0 m) (λ i. named 0 (suc m))
+named-lines zero m k (suc n) h = absurd (omega arith)
+named-lines (suc names) m k n h =
+    rows-format (λ i. NamedText (suc names) m) (λ i. named (suc names) (suc m))
+    (λ i. named-format (suc names) m (omega arith) k) n
 
-lines-format : (k : Part) (n : ℕ) → n < limit k → Format (Counted (LineText k) n) (rows (line k) n)
-lines-format Templates n h = rows-format (ThreeText 0 10) (three 0 10) (three-format 0 10 (omega arith)) n
-lines-format (Arrays m) n h = named-lines m n h
-lines-format (Sections m) n h = named-lines m n h
+lines-format : (k : Part) (n : ℕ) → n < limit k → Format (Counted (λ m. LineText k) n) (lines k n)
+lines-format Templates n h =
+    rows-format (λ i. NumberedText 2 0) (λ i. numbered 3 0) (λ i. numbered-format 2 0 (omega arith)) n
+lines-format (Arrays names) n h = named-lines names 4 (omega arith) n h
+lines-format (Sections names) n h = named-lines names 2 (omega arith) n h
 
 pub limit-some : (n : ℕ) → 0 < limitBy n
 limit-some zero = omega arith
@@ -148,22 +172,22 @@ part-most (Sections n) = limit-most n
 pub record PartText (k : Part) (l : List Line) (z : List ℕ) : Type 0 where
   pub few : length l < limit k
   pub rest : List ℕ
-  pub texts : Texts (LineText k) l rest
+  pub texts : LinesText k l rest
   pub text : z ≡ (digitsOf (length l) ++ 10 ∷ []) ++ rest
 
 pub part-format : (k : Part) → Format (PartText k) (part k)
 part-format k =
     across (PartText k) (λ x. x .1)
-    (pair (Counted (LineText k)) (rows (line k)) (natural-format 0 (limit k) 10 (omega arith) (part-some k) (omega arith))
+    (pair (Counted (λ m. LineText k)) (lines k) (natural-format 0 (limit k) 10 (omega arith) (part-some k) (omega arith))
     (λ n u o. lines-format k n (o .below)))
     up down
   where
-    up : (x : ℕ × List Line) (z : List ℕ) → Two (NaturalText 0 (limit k) 10) (Counted (LineText k)) x z
+    up : (x : ℕ × List Line) (z : List ℕ) → Two (NaturalText 0 (limit k) 10) (Counted (λ m. LineText k)) x z
         → PartText k (x .1) z
     up x z (u, v, o, (h, t), e) = record { few = rw h (o .below); rest = v; texts = t; text = rw (e, o .text, ← h) }
 
     down : (l : List Line) (z : List ℕ) → PartText k l z → (y : ℕ × List Line)
-        × Two (NaturalText 0 (limit k) 10) (Counted (LineText k)) y z × (y .1 ≡ l)
+        × Two (NaturalText 0 (limit k) 10) (Counted (λ m. LineText k)) y z × (y .1 ≡ l)
     down l z t = (
       (length l, l),
       (

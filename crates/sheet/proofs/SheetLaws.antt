@@ -1,7 +1,7 @@
 -- Reading accepts exactly the prints of well-formed sheets and gives back what was printed; the place of a refusal is the
 -- length of the longest front of a print, and there is one.
 use Prim.Native.Nat.{ℕ, zero, suc, _-_, _≤_, _<_}
-use mathlib.Core.Path.{_≡_, refl, sym, _∙_, ap}
+use mathlib.Core.Path.{_≡_, refl, _∙_, ap}
 use mathlib.Core.List.{List, [], _∷_, _++_, map}
 use native.Mathlib.Omega.{arith}
 use lib.IntN.{ℤ, pos}
@@ -13,14 +13,14 @@ use Rattle.sheet.specs.declared.Line.{Line}
 use Rattle.sheet.specs.declared.part.Part.{Part}
 use Rattle.sheet.specs.declared.part.Part.the-variants.{Templates, Arrays, Sections}
 use Rattle.sheet.specs.Reading.{got, bad, via}
-use Rattle.sheet.specs.Parts.{limitBy, limit, Parts, parts}
+use Rattle.sheet.specs.Parts.{lineOf, limitBy, limit, Parts, parts}
 use Rattle.sheet.specs.Contents.{toTemplate, toArray, toSection, toSheet, fromTemplate, fromArray, fromSection}
 use Rattle.sheet.specs.Contents.{fromSheet, readSheet}
 use Rattle.sheet.proofs.AllLaws.{zip, unzip}
-use Rattle.sheet.proofs.Format.{Format, took, across, Texts}
+use Rattle.sheet.proofs.Format.{Format, took, across}
 use Rattle.sheet.proofs.WholeLaws.{whole-complete, whole-sound, whole-place}
-use Rattle.sheet.proofs.PartLaws.{NamedText, LineText, limit-most, part-most, PartText, PartsText}
-use Rattle.sheet.proofs.PartLaws.{parts-format}
+use Rattle.sheet.proofs.PartLaws.{numbersOf, NamedText, LineText, LinesText, limit-most, part-most, PartText}
+use Rattle.sheet.proofs.PartLaws.{PartsText, parts-format}
 
 -- ---- a part's lines as the model has them
 
@@ -34,14 +34,14 @@ pub record Same {A : Type 0} (k : Part) (to : Line → A) (from : A → Line) (n
 
 module _ {A : Type 0} {k : Part} {to : Line → A} {from : A → Line} {numbers : A → List ℤ} {P : A → Type 0}
     (same : Same k to from numbers P) where
-  lines-up : (l : List Line) (z : List ℕ) → Texts (LineText k) l z → All P (map to l) × (z ≡ printLines numbers (map to l))
+  lines-up : (l : List Line) (z : List ℕ) → LinesText k l z → All P (map to l) × (z ≡ printLines numbers (map to l))
   lines-up [] z e = (tt, e)
   lines-up (x ∷ l) z (u, v, o, t, e) =
       let (p, q) = same .up x u o in
       let (ps, qs) = lines-up l v t in
       ((p, ps), rw (e, q, qs))
 
-  lines-down : (l : List A) → All P l → Texts (LineText k) (map from l) (printLines numbers l)
+  lines-down : (l : List A) → All P l → LinesText k (map from l) (printLines numbers l)
   lines-down [] h = refl
   lines-down (a ∷ l) h = (printLine (numbers a), printLines numbers l, same .down a (h .0), lines-down l (h .1), refl)
 
@@ -49,7 +49,7 @@ module _ {A : Type 0} {k : Part} {to : Line → A} {from : A → Line} {numbers 
   lines-there [] = refl
   lines-there (a ∷ l) = rw (same .there a, lines-there l)
 
-  lines-back : (l : List Line) (z : List ℕ) → Texts (LineText k) l z → map from (map to l) ≡ l
+  lines-back : (l : List Line) (z : List ℕ) → LinesText k l z → map from (map to l) ≡ l
   lines-back [] z e = refl
   lines-back (x ∷ l) z (u, v, o, t, e) = rw (same .back x u o, lines-back l v t)
 
@@ -73,43 +73,54 @@ ArrayOk n x = (x .template < n) × All Small (arrayNumbers x)
 abbrev SectionOk : ℕ → SectionLine → Type 0
 SectionOk n x = (x .array < n) × All Small (sectionNumbers x)
 
--- the numbers of a line that begins with a name
-abbrev numbersOf : Line → List ℤ
-numbersOf x = pos (x .name) ∷ x .first ∷ x .second ∷ x .third ∷ []
+-- a line that begins with a name, and its numbers
+module _ (n m : ℕ) where
+  abbrev namedNumbers : Line → List ℤ
+  namedNumbers x = pos (x .name) ∷ numbersOf (suc m) x
 
-named-up : (n : ℕ) → n ≤ 64 → (x : Line) (z : List ℕ) → NamedText n x z → ((x .name < n) × All Small (numbersOf x))
-    × (z ≡ printLine (numbersOf x))
-named-up n h x z t = (
-  (t .named, (omega (arith, t .named), (t .three .first, (t .three .second, (t .three .third, tt))))),
-  t .text ∙ ap (λ (r : List ℕ). digitsOf (x .name) ++ 32 ∷ r) (t .three .text),
-)
+  named-up : n ≤ 64 → (x : Line) (z : List ℕ) → NamedText n m x z → ((x .name < n) × All Small (namedNumbers x))
+      × (z ≡ printLine (namedNumbers x))
+  named-up h x z t = (
+    (t .named, (omega (arith, t .named), t .numbers .small)),
+    t .text ∙ ap (λ (r : List ℕ). digitsOf (x .name) ++ 32 ∷ r) (t .numbers .text),
+  )
 
-named-down : (n : ℕ) (x : Line) → (x .name < n) × All Small (numbersOf x) → NamedText n x (printLine (numbersOf x))
-named-down n x (h, p) =
-    record {
-      named = h;
-      rest = printLine (x .first ∷ x .second ∷ x .third ∷ []);
-      three = record { named = refl; first = p .1 .0; second = p .1 .1 .0; third = p .1 .1 .1 .0; text = refl };
-      text = refl;
-    }
+  named-down : (x : Line) → lineOf (x .name) (numbersOf (suc m) x) ≡ x → (x .name < n) × All Small (namedNumbers x)
+      → NamedText n m x (printLine (namedNumbers x))
+  named-down x e (h, p) =
+      record {
+        named = h;
+        rest = printLine (numbersOf (suc m) x);
+        numbers = record { made = e; small = p .1; text = refl };
+        text = refl;
+      }
 
 pub templates-same : Same Templates toTemplate fromTemplate templateNumbers TemplateOk
 templates-same =
     record {
-      up = λ x z t. ((t .first, (t .second, (t .third, tt))), t .text);
-      down = λ a p. record { named = refl; first = p .0; second = p .1 .0; third = p .1 .1 .0; text = refl };
+      up = λ x z t. (t .small, t .text);
+      down = λ a p. record { made = refl; small = p; text = refl };
       there = λ a. refl;
-      back = λ x z t. ap (λ (n : ℕ). record { name = n; first = x .first; second = x .second; third = x .third })
-          (sym (t .named));
+      back = λ x z t. t .made;
     }
 
 arrays-same : (n : ℕ) → n ≤ 64 → Same (Arrays n) toArray fromArray arrayNumbers (ArrayOk n)
 arrays-same n h =
-    record { up = named-up n h; down = λ a. named-down n (fromArray a); there = λ a. refl; back = λ x z t. refl }
+    record {
+      up = named-up n 4 h;
+      down = λ a. named-down n 4 (fromArray a) refl;
+      there = λ a. refl;
+      back = λ x z t. t .numbers .made;
+    }
 
 sections-same : (n : ℕ) → n ≤ 64 → Same (Sections n) toSection fromSection sectionNumbers (SectionOk n)
 sections-same n h =
-    record { up = named-up n h; down = λ a. named-down n (fromSection a); there = λ a. refl; back = λ x z t. refl }
+    record {
+      up = named-up n 2 h;
+      down = λ a. named-down n 2 (fromSection a) refl;
+      there = λ a. refl;
+      back = λ x z t. t .numbers .made;
+    }
 
 -- where nothing can be named there is no line
 few-lines : {A : Type 0} (name : A → ℕ) (n : ℕ) (l : List A) → length l ≤ 64 → All (λ x. name x < n) l

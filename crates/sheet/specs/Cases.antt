@@ -38,9 +38,11 @@ malformed s n = record { sheet = s; refusal = 14; place = n }
 
 unfoldable pub table : List Case
 table =
-    formed "1\n12 3 2\n1\n0 1 0 12\n1\n0 0 11 5\n"
+    formed "1\n12 3 2\n1\n0 1 0 12 0 0\n1\n0 0 11 5\n"
     ∷ formed "0\n0\n0\n"
     ∷ formed "1\n-2147483647 0 2147483647\n0\n0\n"
+    -- lower bounds may be negative
+    ∷ formed "1\n12 3 2\n1\n0 2 -2 5 -1 -2147483647\n0\n"
     -- an early end gives the length, and nothing may follow the last line
     ∷ malformed "" 0
     ∷ malformed "0\n0\n0" 5
@@ -63,7 +65,7 @@ table =
     ∷ malformed "1\n1 1 1\n0\n1" 10
     -- a name that does not exist
     ∷ malformed "1\n1 1 1\n1\n1" 10
-    ∷ malformed "2\n1 1 1\n1 1 1\n1\n1 1 1 1\n1\n1" 26
+    ∷ malformed "2\n1 1 1\n1 1 1\n1\n1 1 1 1 1 1\n1\n1" 30
     ∷ malformed "2\n1 1 1\n1 1 1\n1\n10" 17
     ∷ malformed "12\n1 1 1\n1 1 1\n1 1 1\n1 1 1\n1 1 1\n1 1 1\n1 1 1\n1 1 1\n1 1 1\n1 1 1\n1 1 1\n1 1 1\n1\n12" 78
     ∷ malformed "12\n1 1 1\n1 1 1\n1 1 1\n1 1 1\n1 1 1\n1 1 1\n1 1 1\n1 1 1\n1 1 1\n1 1 1\n1 1 1\n1 1 1\n1\n11" 79
@@ -71,4 +73,7 @@ table =
     ∷ malformed "1\n1  1" 4
     ∷ malformed "1\n1 1\n" 5
     ∷ malformed "1\n1 1 1 " 7
+    -- an array without its last number, and with one too many
+    ∷ malformed "1\n1 1 1\n1\n0 1 1 1 1\n" 19
+    ∷ malformed "1\n1 1 1\n1\n0 1 1 1 1 1 " 21
     ∷ []

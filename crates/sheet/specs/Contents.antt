@@ -11,13 +11,21 @@ use Rattle.sheet.specs.declared.Content.{Content}
 use Rattle.sheet.specs.Reading.{Got, via, whole}
 use Rattle.sheet.specs.Parts.{Parts, parts}
 
--- ---- lines as the model has them, and back
+-- ---- lines as the model has them, and back; a line that has fewer than five numbers has 0 for the others
 
 abbrev pub toTemplate : Line → TemplateLine
 toTemplate x = record { cells = x .first; processors = x .second; block = x .third }
 
 abbrev pub toArray : Line → ArrayLine
-toArray x = record { template = x .name; stride = x .first; offset = x .second; size = x .third }
+toArray x =
+    record {
+      template = x .name;
+      stride = x .first;
+      offset = x .second;
+      size = x .third;
+      lower = x .fourth;
+      origin = x .fifth;
+    }
 
 abbrev pub toSection : Line → SectionLine
 toSection x =
@@ -32,14 +40,37 @@ toSheet w =
     }
 
 abbrev pub fromTemplate : TemplateLine → Line
-fromTemplate x = record { name = 0; first = x .cells; second = x .processors; third = x .block }
+fromTemplate x =
+    record {
+      name = 0;
+      first = x .cells;
+      second = x .processors;
+      third = x .block;
+      fourth = pos 0;
+      fifth = pos 0;
+    }
 
 abbrev pub fromArray : ArrayLine → Line
-fromArray x = record { name = x .template; first = x .stride; second = x .offset; third = x .size }
+fromArray x =
+    record {
+      name = x .template;
+      first = x .stride;
+      second = x .offset;
+      third = x .size;
+      fourth = x .lower;
+      fifth = x .origin;
+    }
 
 abbrev pub fromSection : SectionLine → Line
 fromSection x =
-    record { name = x .array; first = x .triplet .lower; second = x .triplet .upper; third = x .triplet .stride }
+    record {
+      name = x .array;
+      first = x .triplet .lower;
+      second = x .triplet .upper;
+      third = x .triplet .stride;
+      fourth = pos 0;
+      fifth = pos 0;
+    }
 
 abbrev pub fromSheet : Sheet → Parts
 fromSheet w =
@@ -57,7 +88,7 @@ readSheet s = whole (via toSheet parts s)
 -- ---- how lines are kept: in the first of 64 rows, the others 0
 
 abbrev pub noLine : Line
-noLine = record { name = 0; first = pos 0; second = pos 0; third = pos 0 }
+noLine = record { name = 0; first = pos 0; second = pos 0; third = pos 0; fourth = pos 0; fifth = pos 0 }
 
 abbrev pub linesOf : List Line → Lines
 linesOf l = record { count = length l; rows = l ++ replicate (64 - length l) noLine }

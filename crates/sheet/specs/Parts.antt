@@ -1,7 +1,8 @@
 -- How a sheet's lines and parts are read. Definitions only.
 use Prim.Native.Nat.{ℕ, zero, suc, _≤_, _<_}
 use mathlib.Core.List.{List}
-use lib.ListN.{length}
+use lib.IntN.{ℤ, pos}
+use lib.ListN.{length, getD}
 use Rattle.sheet.specs.declared.Line.{Line}
 use Rattle.sheet.specs.declared.part.Part.{Part}
 use Rattle.sheet.specs.declared.part.Part.the-variants.{Templates, Arrays, Sections}
@@ -10,20 +11,39 @@ use Rattle.sheet.specs.Numbers.{natural, number}
 
 -- ---- lines
 
--- three numbers to the byte end, as the line that begins with a name
-abbrev pub three : ℕ → ℕ → List ℕ → Got Line
-three name end =
-    via (λ x. record { name = name; first = x .0; second = x .1 .0; third = x .1 .1 })
-    (both (number 32) (λ a. both (number 32) (λ b. number end)))
+-- the byte after a number that m others follow on its line: a blank, and a newline after the last
+abbrev pub endBy : ℕ → ℕ
+endBy zero = 10
+endBy (suc m) = 32
 
--- a line that begins with one of n names
-abbrev pub named : ℕ → List ℕ → Got Line
-named n = via (λ x. x .1) (both (natural 0 n 32) (λ a. three a 10))
+-- a line of a name and at most five numbers: those that it lacks are 0
+abbrev pub lineOf : ℕ → List ℤ → Line
+lineOf name l =
+    record {
+      name = name;
+      first = getD l 0 (pos 0);
+      second = getD l 1 (pos 0);
+      third = getD l 2 (pos 0);
+      fourth = getD l 3 (pos 0);
+      fifth = getD l 4 (pos 0);
+    }
+
+-- n numbers to the end of a line
+abbrev pub numbers : ℕ → List ℕ → Got (List ℤ)
+numbers = rows (λ m. number (endBy m))
+
+-- the same as the line that begins with a name
+abbrev pub numbered : ℕ → ℕ → List ℕ → Got Line
+numbered n name = via (lineOf name) (numbers n)
+
+-- a line that begins with one of some names and goes on with n numbers
+abbrev pub named : ℕ → ℕ → List ℕ → Got Line
+named names n = via (λ x. x .1) (both (natural 0 names 32) (numbered n))
 
 abbrev pub line : Part → List ℕ → Got Line
-line Templates = three 0 10
-line (Arrays n) = named n
-line (Sections n) = named n
+line Templates = numbered 3 0
+line (Arrays n) = named n 5
+line (Sections n) = named n 3
 
 -- ---- parts
 
@@ -37,8 +57,11 @@ limit Templates = 65
 limit (Arrays n) = limitBy n
 limit (Sections n) = limitBy n
 
+abbrev pub lines : Part → ℕ → List ℕ → Got (List Line)
+lines k = rows (λ m. line k)
+
 abbrev pub part : Part → List ℕ → Got (List Line)
-part k = via (λ x. x .1) (both (natural 0 (limit k) 10) (λ n. rows (line k) n))
+part k = via (λ x. x .1) (both (natural 0 (limit k) 10) (lines k))
 
 -- at most 64 names, and for a line at least one
 abbrev pub Room : Part → Type 0

@@ -23,10 +23,10 @@ both r q s = andThen (r s) (λ a t. mapGot (λ b. (a, b)) (q a t))
 abbrev pub via : {A B : Type 0} → (A → B) → (List ℕ → Got A) → List ℕ → Got B
 via f r s = mapGot f (r s)
 
--- n values, one after the other
-abbrev pub rows : {A : Type 0} → (List ℕ → Got A) → ℕ → List ℕ → Got (List A)
+-- n values, one after the other; the reading of one may depend on how many follow it
+abbrev pub rows : {A : Type 0} → (ℕ → List ℕ → Got A) → ℕ → List ℕ → Got (List A)
 rows r zero s = got [] s
-rows r (suc n) s = via (λ x. x .0 ∷ x .1) (both r (λ a. rows r n)) s
+rows r (suc n) s = via (λ x. x .0 ∷ x .1) (both (r n) (λ a. rows r n)) s
 
 -- nothing may follow
 abbrev pub whole : {A : Type 0} → Got A → Got A

@@ -15,13 +15,15 @@ use part::Part;
 mod number;
 mod part;
 
-// A line: the name that it begins with, 0 on a template's line, which has none; and three
-// numbers.
+// A line: the name that it begins with, 0 on a template's line, which has none; and its numbers,
+// five on an array's line and three on the others, where the last two are 0.
 pub struct Line {
     pub name: u64,
     pub first: i64,
     pub second: i64,
     pub third: i64,
+    pub fourth: i64,
+    pub fifth: i64,
 }
 
 // The lines of a part stand in its first rows; the other rows are 0.
@@ -35,6 +37,8 @@ const NO_LINE: Line = Line {
     first: 0,
     second: 0,
     third: 0,
+    fourth: 0,
+    fifth: 0,
 };
 
 const NO_LINES: Lines = Lines {
@@ -140,6 +144,8 @@ pub fn section_of(content: Content, j: u64) -> Section
             stride: array.first,
             offset: array.second,
             size: array.third,
+            lower: array.fourth,
+            origin: array.fifth,
         },
         triplet: Triplet {
             lower: section.first,

@@ -3,8 +3,8 @@ ghost use mathlib.Core.Path.{_≡_};
 ghost use Prim.Native.Nat.{_<_, _≤_};
 ghost use mathlib.Core.List.{[]};
 ghost use lib.ListN.{length, drop};
-ghost use Rattle.sheet.specs.Reading.{rows};
-ghost use Rattle.sheet.specs.Parts.{three, named, line, limitBy, limit, part, Names, Room};
+ghost use Rattle.sheet.specs.Parts.{endBy, lineOf, numbered, named, line, limitBy, limit};
+ghost use Rattle.sheet.specs.Parts.{lines, part, Names, Room};
 ghost use Rattle.sheet.specs.Contents.{linesOf};
 ghost use Rattle.sheet.specs.Answers.{Answers, PartAnswers, placeOf, lineFound, endedPlace};
 use crate::Line;
@@ -41,44 +41,57 @@ pub struct PartRead {
     pub lines: Lines,
 }
 
-// Three numbers, the last one ended by `end`, as the line that begins with `name`.
-fn three_at(s: &[u8], c: Cursor, name: u64, end: u8) -> LineRead
-    requires { ⌜ (c .at ≤ length (now s)) × (end < 48) ⌝ }
-    ensures { λ r. ⌜ Answers (now (s .entry)) (lineFound r) (three name end (drop (c .at) (now (s .entry)))) ⌝ }
+// The byte after a number that `more` others follow on its line.
+fn end_by(more: usize) -> u8
+    ensures { λ r. ⌜ r ≡ endBy more ⌝ }
 {
-    let q1 = number::number_at(s, c, b' ');
-    let Number::Value(first, c1) = q1 else {
-        return LineRead::Bad(number::number_place(q1));
-    };
-    let q2 = number::number_at(s, c1, b' ');
-    let Number::Value(second, c2) = q2 else {
-        return LineRead::Bad(number::number_place(q2));
-    };
-    let q3 = number::number_at(s, c2, end);
-    let Number::Value(third, c3) = q3 else {
-        return LineRead::Bad(number::number_place(q3));
-    };
-    LineRead::Value(
-        Line {
-            name,
-            first,
-            second,
-            third,
-        },
-        c3,
-    )
+    if more == 0 { b'\n' } else { b' ' }
 }
 
-// A line that begins with one of `names` names.
-fn named_at(s: &[u8], c: Cursor, names: u64) -> LineRead
-    requires { ⌜ (c .at ≤ length (now s)) × (0 < names) × (names ≤ 64) ⌝ }
-    ensures { λ r. ⌜ Answers (now (s .entry)) (lineFound r) (named names (drop (c .at) (now (s .entry)))) ⌝ }
+// A line of a name and five numbers.
+fn line_of(name: u64, v: [i64; 5]) -> Line
+    ensures { λ r. ⌜ r ≡ lineOf name v ⌝ }
+{
+    Line {
+        name,
+        first: v[0],
+        second: v[1],
+        third: v[2],
+        fourth: v[3],
+        fifth: v[4],
+    }
+}
+
+// n numbers to the end of a line, as the line that begins with `name`; those that it lacks are 0.
+fn numbers_at(s: &[u8], c: Cursor, name: u64, n: usize) -> LineRead
+    requires { ⌜ (c .at ≤ length (now s)) × (n ≤ 5) ⌝ }
+    ensures { λ r. ⌜ Answers (now (s .entry)) (lineFound r) (numbered n name (drop (c .at) (now (s .entry)))) ⌝ }
+{
+    let mut v = [0i64; 5];
+    let mut at = c.at;
+    let mut i: usize = 0;
+    while i < n {
+        let q = number::number_at(s, Cursor { at }, end_by(n - (i + 1)));
+        let Number::Value(z, next) = q else {
+            return LineRead::Bad(number::number_place(q));
+        };
+        v[i] = z;
+        at = next.at;
+        i += 1;
+    }
+    LineRead::Value(line_of(name, v), Cursor { at })
+}
+
+// A line that begins with one of `names` names and goes on with n numbers.
+fn named_at(s: &[u8], c: Cursor, names: u64, n: usize) -> LineRead
+    requires { ⌜ (c .at ≤ length (now s)) × (0 < names) × (names ≤ 64) × (n ≤ 5) ⌝ }
+    ensures { λ r. ⌜ Answers (now (s .entry)) (lineFound r) (named names n (drop (c .at) (now (s .entry)))) ⌝ }
 {
     let q = number::natural_at(s, c, 0, names, b' ');
     let Natural::Value(name, next) = q else {
         return LineRead::Bad(number::natural_place(q));
     };
-    three_at(s, next, name, b'\n')
+    numbers_at(s, next, name, n)
 }
 
 // A line of a part of that kind.
@@ -87,9 +100,9 @@ fn line_at(s: &[u8], c: Cursor, kind: Part) -> LineRead
     ensures { λ r. ⌜ Answers (now (s .entry)) (lineFound r) (line kind (drop (c .at) (now (s .entry)))) ⌝ }
 {
     match kind {
-        Part::Templates => three_at(s, c, 0, b'\n'),
-        Part::Arrays(names) => named_at(s, c, names),
-        Part::Sections(names) => named_at(s, c, names),
+        Part::Templates => numbers_at(s, c, 0, 3),
+        Part::Arrays(names) => named_at(s, c, names, 5),
+        Part::Sections(names) => named_at(s, c, names, 3),
     }
 }
 
@@ -116,7 +129,7 @@ fn refused(place: usize) -> PartRead
 // n lines of a part of that kind.
 fn lines_at(s: &[u8], c: Cursor, kind: Part, n: usize) -> PartRead
     requires { ⌜ (c .at ≤ length (now s)) × (n < limit kind) × Room kind ⌝ }
-    ensures { λ r. ⌜ PartAnswers (now (s .entry)) r (rows (line kind) n (drop (c .at) (now (s .entry)))) ⌝ }
+    ensures { λ r. ⌜ PartAnswers (now (s .entry)) r (lines kind n (drop (c .at) (now (s .entry)))) ⌝ }
 {
     let mut rows = [NO_LINE; 64];
     let mut at = c.at;

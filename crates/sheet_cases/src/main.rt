@@ -40,6 +40,9 @@ fn right(x: Section) -> bool {
     if m.stride != 1 || m.offset != 0 || m.size != 12 {
         return false;
     }
+    if m.lower != 0 || m.origin != 0 {
+        return false;
+    }
     t.lower == 0 && t.upper == 11 && t.stride == 5
 }
 
@@ -53,6 +56,7 @@ fn listed(content: sheet::Content) {
 fn main() {
     case(b"0\n0\n0\n");
     case(b"1\n-2147483647 0 2147483647\n0\n0\n");
+    case(b"1\n12 3 2\n1\n0 2 -2 5 -1 -2147483647\n0\n");
     case(b"");
     case(b"0\n0\n0");
     case(b"64");
@@ -69,7 +73,7 @@ fn main() {
     case(b"0\n0\n1");
     case(b"1\n1 1 1\n0\n1");
     case(b"1\n1 1 1\n1\n1");
-    case(b"2\n1 1 1\n1 1 1\n1\n1 1 1 1\n1\n1");
+    case(b"2\n1 1 1\n1 1 1\n1\n1 1 1 1 1 1\n1\n1");
     case(b"2\n1 1 1\n1 1 1\n1\n10");
     case(
         b"12\n1 1 1\n1 1 1\n1 1 1\n1 1 1\n1 1 1\n1 1 1\n1 1 1\n1 1 1\n1 1 1\n1 1 1\n1 1 1\n1 1 1\n1\n12",
@@ -80,7 +84,9 @@ fn main() {
     case(b"1\n1  1");
     case(b"1\n1 1\n");
     case(b"1\n1 1 1 ");
-    let mut buffer = [0u8; 7306];
+    case(b"1\n1 1 1\n1\n0 1 1 1 1\n");
+    case(b"1\n1 1 1\n1\n0 1 1 1 1 1 ");
+    let mut buffer = [0u8; 8842];
     let n = io::read_full(0, &mut buffer);
     let r = sheet::read_sheet(&buffer[..n]);
     listed(r.content);

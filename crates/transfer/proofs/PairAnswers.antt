@@ -12,7 +12,8 @@ use Rattle.model.specs.Ownership.{layoutOf}
 use Rattle.model.specs.Sections.{layout, count}
 use Rattle.model.specs.Questions.{Question, ask, firstNo, AllYes, isBelow, ofSection, ofProcessor}
 use Rattle.model.specs.Transfers.{ofCounts, ofPair}
-use Rattle.model.proofs.QuestionLaws.{all-yes, asks-on, both-yes, stops, below-is, mapping-yes, whole-mapping}
+use Rattle.model.proofs.QuestionLaws.{all-yes, asks-on, both-yes, stops, below-is}
+use Rattle.model.proofs.AcceptedLaws.{mapping-yes, whole-mapping}
 use Rattle.section.specs.declared.questions.Strided.{Strided}
 use Rattle.section.specs.declared.questions.Asked.the-variants as asked
 use Rattle.section.specs.Strides.{stridedOf}

@@ -1,10 +1,14 @@
 //! Which texts are well-formed sheets and which begin one, from the form that
-//! document 01 gives. A text is held against the sheets of every number of lines,
-//! so nothing here reads byte by byte as a reader does. The place of refusal 14
-//! is found by its definition: each front of the text is tried.
+//! document 01 gives, an array's line with its two bounds. A text is held against
+//! the sheets of every number of lines, so nothing here reads byte by byte as a
+//! reader does. The place of refusal 14 is found by its definition: each front of
+//! the text is tried.
 
 use std::iter;
 
+/// How many numbers a line of each part has, beside the name: T p k, then a b n and
+/// the bounds, then l h s.
+const PARTS: [usize; 3] = [3, 5, 3];
 const MOST_LINES: i64 = 64;
 const LARGEST: i64 = 2_147_483_647;
 const BLANK: u8 = b' ';
@@ -58,45 +62,50 @@ enum Fit {
     Whole,
 }
 
-/// The fields of a part with so many lines, each with the byte after it. Each
-/// line of a later part names one of the lines of the part before.
-fn fields(count: i64, names: Option<i64>) -> impl Iterator<Item = (Field, u8)> {
+/// The fields of a part with so many lines of so many numbers, each with the byte
+/// after it. Each line of a later part names one of the lines of the part before.
+fn fields(count: i64, numbers: usize, names: Option<i64>) -> impl Iterator<Item = (Field, u8)> {
     let name = names.map(|below| (Field::Name { below }, BLANK));
-    let numbers = [BLANK, BLANK, NEWLINE].map(|after| (Field::Number, after));
-    let line = move |_| name.into_iter().chain(numbers);
+    let others = iter::repeat_n((Field::Number, BLANK), numbers - 1);
+    let last = iter::once((Field::Number, NEWLINE));
+    let line = move |_| name.into_iter().chain(others.clone()).chain(last.clone());
     iter::once((Field::Count(count), NEWLINE)).chain((0..count).flat_map(line))
 }
 
 /// Holds a text against the parts from here on, over every number of lines.
-fn fit_parts(text: &[u8], parts: u32, names: Option<i64>) -> Fit {
-    if parts == 0 {
+fn fit_parts(text: &[u8], parts: &[usize], names: Option<i64>) -> Fit {
+    let Some((&numbers, later)) = parts.split_first() else {
         return if text.is_empty() { Fit::Whole } else { Fit::No };
-    }
-    let fit = |count| fit_part(text, parts, count, names);
+    };
+    let fit = |count| match fit_part(text, fields(count, numbers, names)) {
+        Ok(rest) => fit_parts(rest, later, Some(count)),
+        Err(fit) => fit,
+    };
     (0..=MOST_LINES).map(fit).max().unwrap_or(Fit::No)
 }
 
-/// Where the text ends inside the part, the parts after it may have no lines;
-/// its own lines must all have texts.
-fn fit_part(text: &[u8], parts: u32, count: i64, names: Option<i64>) -> Fit {
-    let mut fields = fields(count, names);
+/// What of the text comes after a part, or how they go together if that is decided.
+/// Where the text ends inside the part, the parts after it may have no lines; its
+/// own lines must all have texts.
+fn fit_part(text: &[u8], fields: impl Iterator<Item = (Field, u8)>) -> Result<&[u8], Fit> {
+    let mut fields = fields;
     let mut rest = text;
     while let Some((field, after)) = fields.next() {
         let Some(end) = rest.iter().position(|byte| [BLANK, NEWLINE].contains(byte)) else {
             let goes_on =
                 field.begins_with(rest) && fields.all(|(later, _)| later.begins_with(b""));
-            return if goes_on { Fit::Front } else { Fit::No };
+            return Err(if goes_on { Fit::Front } else { Fit::No });
         };
         if !field.has_text(&rest[..end]) || rest[end] != after {
-            return Fit::No;
+            return Err(Fit::No);
         }
         rest = &rest[end + 1..];
     }
-    fit_parts(rest, parts - 1, Some(count))
+    Ok(rest)
 }
 
 fn fit(text: &[u8]) -> Fit {
-    fit_parts(text, 3, None)
+    fit_parts(text, &PARTS, None)
 }
 
 pub fn is_well_formed(text: &[u8]) -> bool {

@@ -9,7 +9,7 @@ use crate::comparison::{Comparison, Difference, Outcome};
 
 const LARGEST: i64 = 2_147_483_647;
 /// The length of the longest sheet.
-const LONGEST: usize = 7_305;
+const LONGEST: usize = 8_841;
 const MEGABYTE: usize = 1 << 20;
 
 pub fn compare_inputs(comparison: &mut Comparison) -> Result<String, Difference> {
@@ -26,15 +26,17 @@ pub fn compare_inputs(comparison: &mut Comparison) -> Result<String, Difference>
 
 /// Every count, name and number has as many bytes as it can have.
 fn longest_sheet() -> Sheet {
-    let numbers = [-LARGEST; 3];
-    let naming = |line: usize| NamingLine {
-        name: 10 + line % 54,
-        numbers,
-    };
     Sheet {
-        templates: vec![numbers; 64],
-        arrays: (0..64).map(naming).collect(),
-        sections: (0..64).map(naming).collect(),
+        templates: vec![[-LARGEST; 3]; 64],
+        arrays: (0..64).map(longest_line).collect(),
+        sections: (0..64).map(longest_line).collect(),
+    }
+}
+
+fn longest_line<const N: usize>(line: usize) -> NamingLine<N> {
+    NamingLine {
+        name: 10 + line % 54,
+        numbers: [-LARGEST; N],
     }
 }
 
@@ -46,7 +48,7 @@ fn compare_longer(comparison: &mut Comparison, text: &[u8]) -> Outcome {
             program::compare(comparison, &longer, &print::of_malformed(LONGEST))?;
         }
     }
-    for place in [0, 1, 2, 3, 100, 2_306, 7_304] {
+    for place in [0, 1, 2, 3, 100, 2_306, 6_340, 8_840] {
         let longer = [&text[..place], &[b'!'; MEGABYTE]].concat();
         program::compare(comparison, &longer, &print::of_malformed(place))?;
     }
@@ -58,7 +60,7 @@ fn compare_longer(comparison: &mut Comparison, text: &[u8]) -> Outcome {
 
 /// A pipe may hand over a part of the sheet at a time.
 fn compare_pieces(comparison: &mut Comparison, text: &[u8], expected: &str) -> Outcome {
-    for size in [1_000, 4_096, 7_304] {
+    for size in [1_000, 4_096, 8_840] {
         let pieces: Vec<&[u8]> = text.chunks(size).collect();
         program::compare_pieces(comparison, &pieces, expected)?;
     }
@@ -67,7 +69,7 @@ fn compare_pieces(comparison: &mut Comparison, text: &[u8], expected: &str) -> O
 }
 
 fn compare_short_pieces(comparison: &mut Comparison) -> Outcome {
-    let text = b"1\n12 3 2\n1\n0 1 0 12\n1\n0 0 11 5\n";
+    let text = b"1\n12 3 2\n1\n0 1 0 12 0 0\n1\n0 0 11 5\n";
     let expected = "S 0 3\n0 1 1 0\n1 0 0\n2 2 3 1 2\n";
     for size in [1, 2, 5, 30] {
         let pieces: Vec<&[u8]> = text.chunks(size).collect();
@@ -80,11 +82,17 @@ fn compare_short_pieces(comparison: &mut Comparison) -> Outcome {
 /// at or next to a size that a buffer may have.
 pub fn compare_long_lists(comparison: &mut Comparison) -> Result<String, Difference> {
     let lists = [
-        ([2_200_000, 1, 8, 1, 0, 1_100_001], [0, 1_100_000, 1]),
-        ([1_999_999, 1, 8, 1, 0, 1_999_999], [1_999_998, 0, -1]),
-        ([1_500_000, 2, 64, 1, 3, 1_400_000], [0, 1_399_999, 2]),
-        ([1_999_999, 3, 5, 1, 0, 1_999_999], [1, 1_999_998, 1]),
-        ([1_999_999, 2, 7, 3, 1, 666_666], [666_665, 0, -1]),
+        ([2_200_000, 1, 8, 1, 0, 1_100_001, 0, 0], [0, 1_100_000, 1]),
+        (
+            [1_999_999, 1, 8, 1, -1, 1_999_999, 1, 0],
+            [1_999_999, 1, -1],
+        ),
+        (
+            [1_500_000, 2, 64, 1, 9, 1_400_000, -4, 2],
+            [-4, 1_399_995, 2],
+        ),
+        ([1_999_999, 3, 5, 1, 0, 1_999_999, 0, 0], [1, 1_999_998, 1]),
+        ([1_999_999, 2, 7, 3, 1, 666_666, 0, 0], [666_665, 0, -1]),
     ];
     for (mapping, section) in lists {
         compare_list(comparison, mapping, section)?;
@@ -94,20 +102,23 @@ pub fn compare_long_lists(comparison: &mut Comparison) -> Result<String, Differe
         .chain([10_000, 1_000_000])
     {
         for entries in size - 1..=size + 1 {
-            let mapping = [2 * entries, 2, 4, 1, 0, 2 * entries];
+            let mapping = [2 * entries, 2, 4, 1, 0, 2 * entries, 0, 0];
             compare_list(comparison, mapping, [0, 2 * entries - 1, 1])?;
         }
     }
     Ok("lists of up to 1,999,999 entries".to_string())
 }
 
-fn compare_list(comparison: &mut Comparison, mapping: [i64; 6], section: [i64; 3]) -> Outcome {
-    let [cells, processors, block, stride, offset, size] = mapping;
-    let line = |numbers| NamingLine { name: 0, numbers };
+fn compare_list(comparison: &mut Comparison, mapping: [i64; 8], section: [i64; 3]) -> Outcome {
+    let [cells, processors, block, array @ ..] = mapping;
     let sheet = Sheet {
         templates: vec![[cells, processors, block]],
-        arrays: vec![line([stride, offset, size])],
-        sections: vec![line(section)],
+        arrays: vec![naming_first(array)],
+        sections: vec![naming_first(section)],
     };
     program::compare(comparison, &sheet.text(), &print::of_sheet(&sheet))
+}
+
+fn naming_first<const N: usize>(numbers: [i64; N]) -> NamingLine<N> {
+    NamingLine { name: 0, numbers }
 }

@@ -7,15 +7,15 @@ use crate::comparison::{Comparison, Difference, Outcome};
 
 /// A sheet of three parts, one of whose lines has every kind of number.
 const WHOLE: &str = "2\n12 3 2\n-2147483647 0 2147483647\n\
-    11\n1 1 0 12\n0 3 -1 4\n0 1 0 12\n0 1 0 12\n0 1 0 12\n0 1 0 12\n0 1 0 12\n0 1 0 12\n0 1 0 12\n\
-    0 1 0 12\n1 1 0 12\n\
+    11\n1 1 0 12 0 0\n0 3 -1 4 -5 1\n0 1 0 12 0 -2147483647\n0 1 0 12 0 0\n0 1 0 12 0 0\n\
+    0 1 0 12 0 0\n0 1 0 12 0 0\n0 1 0 12 0 0\n0 1 0 12 0 0\n0 1 0 12 0 0\n1 1 0 12 2147483647 0\n\
     3\n0 0 11 5\n10 11 -1 -5\n9 0 -10 0\n";
 
 /// Bytes that no sheet has.
 const STRANGE: &[u8] = b"\0\t\x0b\x0c\r!+,./:\x7f\x80\xa0\xb2\xff";
 
 const ONE_TEMPLATE: &str = "1\n12 3 2\n";
-const ONE_ARRAY: &str = "1\n12 3 2\n1\n0 1 0 12\n";
+const ONE_ARRAY: &str = "1\n12 3 2\n1\n0 1 0 12 0 0\n";
 
 /// A front of a sheet, what follows it, and how many bytes of that are in place.
 type Case = (&'static str, &'static str, usize);
@@ -55,7 +55,7 @@ const NUMBERS: [Case; 30] = [
 ];
 
 /// Counts, names and the sheet's end.
-const OTHERS: [Case; 37] = [
+const OTHERS: [Case; 50] = [
     ("", "", 0),
     ("", "-0\n", 0),
     ("", "-1\n", 0),
@@ -76,18 +76,32 @@ const OTHERS: [Case; 37] = [
     ("0\n0\n0\n", "0\n", 0),
     ("0\n0\n0\n", "\0", 0),
     // with no templates there are no arrays, and with no arrays no sections
-    ("0\n", "1\n0 1 0 12\n0\n", 0),
+    ("0\n", "1\n0 1 0 12 0 0\n0\n", 0),
     ("0\n", "-", 0),
     ("0\n", "00", 1),
     ("1\n12 3 2\n0\n", "1\n0 0 11 5\n", 0),
     ("1\n12 3 2\n0\n", "64", 0),
     (ONE_TEMPLATE, "65\n", 1),
     (ONE_TEMPLATE, "-1\n", 0),
-    (ONE_TEMPLATE, "1\n1 1 0 12\n", 2),
-    (ONE_TEMPLATE, "1\n-0 1 0 12\n", 2),
-    (ONE_TEMPLATE, "1\n00 1 0 12\n", 3),
+    (ONE_TEMPLATE, "1\n1 1 0 12 0 0\n", 2),
+    (ONE_TEMPLATE, "1\n-0 1 0 12 0 0\n", 2),
+    (ONE_TEMPLATE, "1\n00 1 0 12 0 0\n", 3),
     (ONE_TEMPLATE, "1\n0\n", 3),
-    (ONE_TEMPLATE, "2\n0 1 0 12\n0\n", 12),
+    (ONE_TEMPLATE, "2\n0 1 0 12 0 0\n0\n", 16),
+    // an array has both bounds, and nothing after them
+    (ONE_TEMPLATE, "1\n0 1 0 12\n0\n", 10),
+    (ONE_TEMPLATE, "1\n0 1 0 12 0\n0\n", 12),
+    (ONE_TEMPLATE, "1\n0 1 0 12 \n", 11),
+    (ONE_TEMPLATE, "1\n0 1 0 12  0 0\n", 11),
+    (ONE_TEMPLATE, "1\n0 1 0 12 0 \n", 13),
+    (ONE_TEMPLATE, "1\n0 1 0 12 0 0 0\n", 14),
+    (ONE_TEMPLATE, "1\n0 1 0 12 -0 0\n", 12),
+    (ONE_TEMPLATE, "1\n0 1 0 12 0 -0\n", 14),
+    (ONE_TEMPLATE, "1\n0 1 0 12 01 0\n", 12),
+    (ONE_TEMPLATE, "1\n0 1 0 12 2147483648 0\n", 20),
+    (ONE_TEMPLATE, "1\n0 1 0 12 -2147483648 0\n", 21),
+    (ONE_TEMPLATE, "1\n0 1 0 12 0 2147483648\n", 22),
+    (ONE_TEMPLATE, "1\n0 1 0 12 0 -2147483648\n", 23),
     (ONE_ARRAY, "65\n", 1),
     (ONE_ARRAY, "1\n1 0 11 5\n", 2),
     (ONE_ARRAY, "1\n-1 0 11 5\n", 2),
@@ -142,7 +156,7 @@ fn compare_counts(comparison: &mut Comparison) -> Outcome {
 fn compare_names(comparison: &mut Comparison) -> Outcome {
     for names in [1, 2, 9, 10, 11, 12, 21, 63, 64] {
         let templates = format!("{names}\n{}", "1 1 1\n".repeat(names));
-        let arrays = format!("{ONE_TEMPLATE}{names}\n{}", "0 1 0 12\n".repeat(names));
+        let arrays = format!("{ONE_TEMPLATE}{names}\n{}", "0 1 0 12 0 0\n".repeat(names));
         for front in [templates + "1\n", arrays + "1\n"] {
             for name in (0..=13).chain(19..=22).chain(60..=66).chain(98..=101) {
                 compare_name(comparison, &front, name, names)?;

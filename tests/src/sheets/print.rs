@@ -67,8 +67,8 @@ fn lists(array: Array, triplet: Triplet) -> (u64, Vec<List>) {
     let processors = 0..array.processors;
     if array.size.max(course(&array)) <= LARGEST_ENUMERATED {
         let section = Section::new(array, triplet);
-        let places = enumerate(&array).places;
-        let list = |processor| section.list(processor, &places);
+        let enumeration = enumerate(&array);
+        let list = |processor| section.list(processor, &enumeration);
         return (section.count(), processors.map(list).collect());
     }
     let section = section_search::section(array, triplet);

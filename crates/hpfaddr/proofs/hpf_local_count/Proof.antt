@@ -21,14 +21,14 @@ local-count-requires : tie.Need-local-count-requires
 local-count-requires c κs = search needs
 
 abbrev mapping : tie.Start → Mapping
-mapping s = mappingOf (s .args .cells) (s .args .processors) (s .args .block) (s .args .stride) (s .args .offset) (s .args .size)
+mapping s = mappingOf (s .args .cells) (s .args .processors) (s .args .block) (s .args .stride) (s .args .offset) (s .args .size) (s .args .array-lower) (s .args .template-lower)
 
 -- the answer, of the parameters
 answer : (c : tie.After-local-count) → let s : tie.Start = c .before .before in countedAs (c .local-count .result) ≡ localCount (mapping s) (s .args .processor)
 answer c =
     let s = c .before .before in
     let m : c .before .mapping-of .result ≡ mapping s =
-    mapping-read _ _ _ _ _ _ (s .fits .cells) (s .fits .processors) (s .fits .block) (s .fits .stride) (s .fits .offset) (s .fits .size) (c .before .mapping-of .ensures) in
+    mapping-read _ _ _ _ _ _ _ _ (s .fits .cells) (s .fits .processors) (s .fits .block) (s .fits .stride) (s .fits .offset) (s .fits .size) (s .fits .array-lower) (s .fits .template-lower) (c .before .mapping-of .ensures) in
     c .local-count .ensures ∙ (λ i. localCount (m i) (toZ-ofZ w64 (s .args .processor) (s .fits .processor) i))
 
 enum-known-n : tie.Need-enum-known-n
@@ -39,8 +39,8 @@ counted : (c : tie.After-n) → let s : tie.Start = c .before .before .before .b
     (a ≡ localCount (mapping s) (s .args .processor)) × CountedFits a
 counted c = with-size CountedFits (sym (ap countedAs (c .n .given .1)) ∙ answer (c .before .before)) (local-count-small _ _)
 
-cast-t13 : tie.Need-cast-t13
-cast-t13 c = record { fits = omega (arith, counted (c .before) .1) }
+cast-t15 : tie.Need-cast-t15
+cast-t15 c = record { fits = omega (arith, counted (c .before) .1) }
 
 enum-known-e : tie.Need-enum-known-e
 enum-known-e c = search needs
@@ -55,4 +55,4 @@ returns-2 c =
 pub hpf-local-count-spec : {M : Type 1} → statement M
 hpf-local-count-spec =
     tie.close
-    (tie.spec mapping-of-requires local-count-requires enum-known-n cast-t13 enum-known-e returns returns-2)
+    (tie.spec mapping-of-requires local-count-requires enum-known-n cast-t15 enum-known-e returns returns-2)

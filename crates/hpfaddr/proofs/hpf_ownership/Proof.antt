@@ -21,14 +21,14 @@ ownership-requires : tie.Need-ownership-requires
 ownership-requires c κs = search needs
 
 abbrev mapping : tie.Start → Mapping
-mapping s = mappingOf (s .args .cells) (s .args .processors) (s .args .block) (s .args .stride) (s .args .offset) (s .args .size)
+mapping s = mappingOf (s .args .cells) (s .args .processors) (s .args .block) (s .args .stride) (s .args .offset) (s .args .size) (s .args .array-lower) (s .args .template-lower)
 
 -- the answer, of the parameters
 answer : (c : tie.After-ownership) → let s : tie.Start = c .before .before in ownedAs (c .ownership .result) ≡ ownership (mapping s) (s .args .index)
 answer c =
     let s = c .before .before in
     let m : c .before .mapping-of .result ≡ mapping s =
-    mapping-read _ _ _ _ _ _ (s .fits .cells) (s .fits .processors) (s .fits .block) (s .fits .stride) (s .fits .offset) (s .fits .size) (c .before .mapping-of .ensures) in
+    mapping-read _ _ _ _ _ _ _ _ (s .fits .cells) (s .fits .processors) (s .fits .block) (s .fits .stride) (s .fits .offset) (s .fits .size) (s .fits .array-lower) (s .fits .template-lower) (c .before .mapping-of .ensures) in
     c .ownership .ensures ∙ (λ i. ownership (m i) (toZ-ofZ w64 (s .args .index) (s .fits .index) i))
 
 enum-known-processor : tie.Need-enum-known-processor
@@ -39,11 +39,11 @@ owned : (c : tie.After-processor) → let s : tie.Start = c .before .before .bef
     (a ≡ ownership (mapping s) (s .args .index)) × OwnedFits a
 owned c = with-size OwnedFits (sym (ap ownedAs (c .processor .given .1)) ∙ answer (c .before .before)) (ownership-small _ _)
 
-cast-t14 : tie.Need-cast-t14
-cast-t14 c = record { fits = omega (arith, owned (c .before) .1) }
+cast-t16 : tie.Need-cast-t16
+cast-t16 c = record { fits = omega (arith, owned (c .before) .1) }
 
-cast-t15 : tie.Need-cast-t15
-cast-t15 c = record { fits = omega (arith, owned (c .before .before) .1) }
+cast-t17 : tie.Need-cast-t17
+cast-t17 c = record { fits = omega (arith, owned (c .before .before) .1) }
 
 enum-known-e : tie.Need-enum-known-e
 enum-known-e c = search needs
@@ -62,8 +62,8 @@ hpf-ownership-spec =
     mapping-of-requires
     ownership-requires
     enum-known-processor
-    cast-t14
-    cast-t15
+    cast-t16
+    cast-t17
     enum-known-e
     returns
     returns-2)

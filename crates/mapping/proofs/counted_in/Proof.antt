@@ -1,7 +1,6 @@
 -- `counted_in` meets its contract.
 use mathlib.Core.Path.{_≡_}
 use mathlib.Core.Bool.{true}
-use native.Mathlib.Nat.{le-refl}
 use borrow.Author.Needs.{needs}
 use lib.IntN.{pos}
 use mir.Syntax.{w64}
@@ -30,21 +29,18 @@ is-processor c =
     let s = c .before .before in
     said-yes (isBelow (pos (s .args .l .processors))) (s .args .processor) (s .fits .processor) (c .before .is-below .ensures) (c .if1 .left)
 
-held-below-requires : tie.Need-held-below-requires
-held-below-requires c κs =
+elements-on-requires : tie.Need-elements-on-requires
+elements-on-requires c κs =
     let s = c .before .before .before in
-    record {
-      dealt = record { sized = s .pre; processor = below-natural _ _ (s .fits .processor) (c .natural .ensures) (is-processor (c .before)) };
-      index = le-refl _;
-    }
+    record { sized = s .pre; processor = below-natural _ _ (s .fits .processor) (c .natural .ensures) (is-processor (c .before)) }
 
 returns-2 : tie.Need-returns-2
 unfolding localCountIn
 returns-2 c =
     let s = c .before .before .before .before in
     let q = read-of w64 nat (s .args .processor) (s .fits .processor) (c .before .natural .ensures) in
-    rw (is-processor (c .before .before)) (cc (c .held-below .ensures, q))
+    rw (is-processor (c .before .before)) (cc (c .elements-on .ensures, q))
 
 pub counted-in-spec : {M : Type 1} → statement M
 counted-in-spec =
-    tie.close (tie.spec is-below-requires returns natural-requires held-below-requires returns-2)
+    tie.close (tie.spec is-below-requires returns natural-requires elements-on-requires returns-2)

@@ -29,7 +29,7 @@ returns c =
     ∙ local-count-refused (s .args .m) _ (sym (asked .ask-mapping .ensures .0) ∙ told .1) (s .args .processor)
 
 counted-in-requires : tie.Need-counted-in-requires
-counted-in-requires c κs = subst Sound (c .before .asked .given .1) (c .before .before .before .ask-mapping .ensures .1)
+counted-in-requires c κs = subst Sound (c .before .asked .given .1) (c .before .before .before .ask-mapping .ensures .1) .0
 
 returns-2 : tie.Need-returns-2
 returns-2 c =
@@ -38,7 +38,7 @@ returns-2 c =
     let s = asked .before in
     c .counted-in .ensures
     ∙ (λ i. localCountIn (known .0 .0) (toZ-ofZ w64 (s .args .processor) (s .fits .processor) i))
-    ∙ local-count-by (s .args .m) _ (sym (asked .ask-mapping .ensures .0) ∙ known .1) (s .args .processor)
+    ∙ local-count-by (s .args .m) _ _ (sym (asked .ask-mapping .ensures .0) ∙ known .1) (s .args .processor)
 
 pub local-count-spec : {M : Type 1} → statement M
 local-count-spec =

@@ -1,8 +1,10 @@
 -- `ownership` meets its contract.
 use mathlib.Core.Path.{sym, ap, subst, _∙_}
+use native.Mathlib.Omega.{arith}
 use borrow.Author.Needs.{needs}
 use mir.Syntax.{w64}
 use mir.ValLaws.{toZ-ofZ}
+use Rattle.numbers.proofs.Signed.{small-fits}
 use Rattle.mapping.specs.Answers.{Sound, refusalIn, noOwner, ownershipIn}
 use Rattle.mapping.proofs.CallLaws.{ownership-refused, ownership-by}
 use Rattle.mapping.proofs.ownership.Statement.{statement}
@@ -29,16 +31,21 @@ returns c =
     ∙ ownership-refused (s .args .m) _ (sym (asked .ask-mapping .ensures .0) ∙ told .1) (s .args .index)
 
 owned-in-requires : tie.Need-owned-in-requires
-owned-in-requires c κs = subst Sound (c .before .asked .given .1) (c .before .before .before .ask-mapping .ensures .1)
+owned-in-requires c κs =
+    let known = c .before .asked .given in
+    let sound = subst Sound (known .1) (c .before .before .before .ask-mapping .ensures .1) in
+    rw (toZ-ofZ w64 (known .0 .1 .0) (small-fits w64 (known .0 .1 .0) (omega (arith, sound .1)))) sound
 
 returns-2 : tie.Need-returns-2
 returns-2 c =
     let known = c .before .before .asked .given in
     let asked = c .before .before .before .before in
     let s = asked .before in
+    let sound = subst Sound (known .1) (asked .ask-mapping .ensures .1) in
+    let lower = toZ-ofZ w64 (known .0 .1 .0) (small-fits w64 (known .0 .1 .0) (omega (arith, sound .1))) in
     c .owned-in .ensures
-    ∙ (λ i. ownershipIn (known .0 .0) (toZ-ofZ w64 (s .args .index) (s .fits .index) i))
-    ∙ ownership-by (s .args .m) _ (sym (asked .ask-mapping .ensures .0) ∙ known .1) (s .args .index)
+    ∙ (λ i. ownershipIn (known .0 .0) (lower i) (toZ-ofZ w64 (s .args .index) (s .fits .index) i))
+    ∙ ownership-by (s .args .m) _ _ (sym (asked .ask-mapping .ensures .0) ∙ known .1) (s .args .index)
 
 pub ownership-spec : {M : Type 1} → statement M
 ownership-spec =

@@ -1,6 +1,7 @@
 -- `section_of` meets its contract: a field of 64 bits is read back as the number it is.
 use Prim.Native.Nat.{_^_, _<_}
 use mathlib.Core.Path.{_≡_, _∙_}
+use lib.IntN.{ℤ}
 use lib.Signed.{mag}
 use mir.Syntax.{w64}
 use mir.Val.{toZ, ofZ}
@@ -28,16 +29,30 @@ held x =
       name = x .name;
       first = toZ w64 (ofZ w64 (x .first));
       second = toZ w64 (ofZ w64 (x .second));
-      third = toZ w64
-          (ofZ w64 (x .third));
+      third = toZ w64 (ofZ w64 (x .third));
+      fourth = toZ w64 (ofZ w64 (x .fourth));
+      fifth = toZ w64 (ofZ w64 (x .fifth));
     }
 
-same : (x : Line) → mag (x .first) < 2 ^ 63 → mag (x .second) < 2 ^ 63 → mag (x .third) < 2 ^ 63 → held x ≡ x
-same x a b c =
-    let first = toZ-ofZ w64 (x .first) (record { sfits = a }) in
-    let second = toZ-ofZ w64 (x .second) (record { sfits = b }) in
-    let third = toZ-ofZ w64 (x .third) (record { sfits = c }) in
-    λ i. record { name = x .name; first = first i; second = second i; third = third i }
+-- what is told of a field of 64 bits: something else, and its size
+abbrev Told : Type 0 → ℤ → Type 0
+Told A z = A × (mag z < 2 ^ 63)
+
+back : {A : Type 0} (z : ℤ) → Told A z → toZ w64 (ofZ w64 z) ≡ z
+back z t = toZ-ofZ w64 z (record { sfits = t .1 })
+
+same : (x : Line) {N A B C D E : Type 0}
+    → N × (Told A (x .first) × (Told B (x .second) × (Told C (x .third) × (Told D (x .fourth) × (Told E (x .fifth) × Unit {0})))))
+    → held x ≡ x
+same x (n, (a, (b, (c, (d, (e, u)))))) =
+    λ i. record {
+      name = x .name;
+      first = back (x .first) a i;
+      second = back (x .second) b i;
+      third = back (x .third) c i;
+      fourth = back (x .fourth) d i;
+      fifth = back (x .fifth) e i;
+    }
 
 returns : tie.Need-returns
 unfolding sectionIn
@@ -45,13 +60,10 @@ returns c =
     let template = c .before .before .before .row3 in
     let array = c .before .before .before .before .row2 in
     let section = c .before .before .before .before .before .row in
-    let t = c .before .before .struct-told .given in
-    let a = c .before .struct-told2 .given in
-    let x = c .struct-told3 .given in
-    let t′ = same (template .result) (t .1 .0 .1) (t .1 .1 .0 .1) (t .1 .1 .1 .0 .1) ∙ template .ensures in
-    let a′ = same (array .result) (a .1 .0 .1) (a .1 .1 .0 .1) (a .1 .1 .1 .0 .1) ∙ array .ensures in
-    let x′ = same (section .result) (x .1 .0 .1) (x .1 .1 .0 .1) (x .1 .1 .1 .0 .1) ∙ section .ensures in
-    (λ i. sectionBy (toTemplate (t′ i)) (toArray (a′ i)) (toSection (x′ i))) ∙ rw (array .ensures, section .ensures)
+    let t = same (template .result) (c .before .before .struct-told .given) ∙ template .ensures in
+    let a = same (array .result) (c .before .struct-told2 .given) ∙ array .ensures in
+    let x = same (section .result) (c .struct-told3 .given) ∙ section .ensures in
+    (λ i. sectionBy (toTemplate (t i)) (toArray (a i)) (toSection (x i))) ∙ rw (array .ensures, section .ensures)
 
 pub section-of-spec : {M : Type 1} → statement M
 section-of-spec = tie.close (tie.spec row-requires row-requires-2 row-requires-3 returns)

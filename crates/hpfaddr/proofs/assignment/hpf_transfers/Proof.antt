@@ -25,11 +25,11 @@ transfers-requires c κs = search needs
 
 abbrev left : tie.Start → Section
 left s =
-    sectionFrom (s .args .left-cells) (s .args .left-processors) (s .args .left-block) (s .args .left-stride) (s .args .left-offset) (s .args .left-size) (s .args .left-lower) (s .args .left-upper) (s .args .left-step)
+    sectionFrom (s .args .left-cells) (s .args .left-processors) (s .args .left-block) (s .args .left-stride) (s .args .left-offset) (s .args .left-size) (s .args .left-array-lower) (s .args .left-template-lower) (s .args .left-lower) (s .args .left-upper) (s .args .left-step)
 
 abbrev right : tie.Start → Section
 right s =
-    sectionFrom (s .args .right-cells) (s .args .right-processors) (s .args .right-block) (s .args .right-stride) (s .args .right-offset) (s .args .right-size) (s .args .right-lower) (s .args .right-upper) (s .args .right-step)
+    sectionFrom (s .args .right-cells) (s .args .right-processors) (s .args .right-block) (s .args .right-stride) (s .args .right-offset) (s .args .right-size) (s .args .right-array-lower) (s .args .right-template-lower) (s .args .right-lower) (s .args .right-upper) (s .args .right-step)
 
 abbrev lists : tie.Start → Lists
 lists s = listsOf (now (s .args .positions)) (now (s .args .sent)) (now (s .args .received))
@@ -48,8 +48,8 @@ read : (c : tie.After-section-of2) → made c ≡ call (c .before .before .befor
 read c =
     let s = c .before .before .before .before .before in
     call-read (s .args .sender) (s .args .receiver) (s .fits .sender) (s .fits .receiver)
-    (section-read _ _ _ _ _ _ _ _ _ (s .fits .left-cells) (s .fits .left-processors) (s .fits .left-block) (s .fits .left-stride) (s .fits .left-offset) (s .fits .left-size) (s .fits .left-lower) (s .fits .left-upper) (s .fits .left-step) (c .before .section-of .ensures))
-    (section-read _ _ _ _ _ _ _ _ _ (s .fits .right-cells) (s .fits .right-processors) (s .fits .right-block) (s .fits .right-stride) (s .fits .right-offset) (s .fits .right-size) (s .fits .right-lower) (s .fits .right-upper) (s .fits .right-step) (c .section-of2 .ensures))
+    (section-read _ _ _ _ _ _ _ _ _ _ _ (s .fits .left-cells) (s .fits .left-processors) (s .fits .left-block) (s .fits .left-stride) (s .fits .left-offset) (s .fits .left-size) (s .fits .left-array-lower) (s .fits .left-template-lower) (s .fits .left-lower) (s .fits .left-upper) (s .fits .left-step) (c .before .section-of .ensures))
+    (section-read _ _ _ _ _ _ _ _ _ _ _ (s .fits .right-cells) (s .fits .right-processors) (s .fits .right-block) (s .fits .right-stride) (s .fits .right-offset) (s .fits .right-size) (s .fits .right-array-lower) (s .fits .right-template-lower) (s .fits .right-lower) (s .fits .right-upper) (s .fits .right-step) (c .section-of2 .ensures))
     (lists s)
 
 lists-read : (c : tie.After-section-of2) (after : Lists) → ListsAfter (made c) after → ListsAfter (call (c .before .before .before .before .before)) after

@@ -15,8 +15,8 @@ mapping-of-requires c κs = search needs
 returns : tie.Need-returns
 returns c =
     let s = c .before in
-    let m : c .mapping-of .result ≡ mappingOf (s .args .cells) (s .args .processors) (s .args .block) (s .args .stride) (s .args .offset) (s .args .size) =
-    mapping-read _ _ _ _ _ _ (s .fits .cells) (s .fits .processors) (s .fits .block) (s .fits .stride) (s .fits .offset) (s .fits .size) (c .mapping-of .ensures) in
+    let m : c .mapping-of .result ≡ mappingOf (s .args .cells) (s .args .processors) (s .args .block) (s .args .stride) (s .args .offset) (s .args .size) (s .args .array-lower) (s .args .template-lower) =
+    mapping-read _ _ _ _ _ _ _ _ (s .fits .cells) (s .fits .processors) (s .fits .block) (s .fits .stride) (s .fits .offset) (s .fits .size) (s .fits .array-lower) (s .fits .template-lower) (c .mapping-of .ensures) in
     λ i. record {
       mapping = m i;
       triplet = tripletOf (toZ-ofZ w64 (s .args .lower) (s .fits .lower) i) (toZ-ofZ w64 (s .args .upper) (s .fits .upper) i) (toZ-ofZ w64 (s .args .step) (s .fits .step) i);

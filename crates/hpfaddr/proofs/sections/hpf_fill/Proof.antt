@@ -1,8 +1,7 @@
 -- `hpf_fill` meets its contract: the numbers that `fill_into_bytes` reports fit their fields, and the bytes are those that it left.
 use Prim.Native.Nat.{ℕ}
-use mathlib.Core.Path.{_≡_, sym, ap, _∙_}
+use mathlib.Core.Path.{_≡_, _∙_}
 use mathlib.Core.List.{List}
-use native.Mathlib.Omega.{arith}
 use borrow.Author.Needs.{needs}
 use denote.Ref.{now}
 use mir.Syntax.{w64}
@@ -10,7 +9,6 @@ use Rattle.numbers.proofs.Signed.{back}
 use Rattle.model.specs.declared.Section.{Section}
 use Rattle.model.specs.ByteFills.{ByteFill, inWords}
 use Rattle.model.specs.Calls.{fill}
-use Rattle.fill.specs.declared.Filled.the-variants.{Done}
 use Rattle.fill.specs.Answers.{FilledBytes, reportAs, reportOf}
 use Rattle.hpfaddr.specs.Fields.{sectionFrom}
 use Rattle.hpfaddr.specs.Sizes.{FilledFits}
@@ -27,7 +25,7 @@ fill-into-bytes-requires c κs = search needs
 
 abbrev section : tie.Start → Section
 section s =
-    sectionFrom (s .args .cells) (s .args .processors) (s .args .block) (s .args .stride) (s .args .offset) (s .args .size) (s .args .lower) (s .args .upper) (s .args .step)
+    sectionFrom (s .args .cells) (s .args .processors) (s .args .block) (s .args .stride) (s .args .offset) (s .args .size) (s .args .array-lower) (s .args .template-lower) (s .args .lower) (s .args .upper) (s .args .step)
 
 -- the call, of the parameters
 abbrev call : tie.Start → ByteFill
@@ -47,62 +45,26 @@ told c after =
     let made = c .before .before in
     let s = made .before .before in
     fill-read (s .args .processor) (s .args .place) (s .args .quota) (s .fits .processor) (s .fits .place) (s .fits .quota)
-    (section-read _ _ _ _ _ _ _ _ _ (s .fits .cells) (s .fits .processors) (s .fits .block) (s .fits .stride) (s .fits .offset) (s .fits .size) (s .fits .lower) (s .fits .upper) (s .fits .step) (made .section-of .ensures))
+    (section-read _ _ _ _ _ _ _ _ _ _ _ (s .fits .cells) (s .fits .processors) (s .fits .block) (s .fits .stride) (s .fits .offset) (s .fits .size) (s .fits .array-lower) (s .fits .template-lower) (s .fits .lower) (s .fits .upper) (s .fits .step) (made .section-of .ensures))
     (now (s .args .list)) after (c .fill-into-bytes .result)
 
-enum-known-r : tie.Need-enum-known-r
-enum-known-r c = search needs
+answer : (c : tie.After-fill-into-bytes) → let s : tie.Start = c .before .before .before .before in
+    reportAs (c .fill-into-bytes .result) ≡ reportOf (fill (inWords (call s)))
+answer c = told c _ (c .fill-into-bytes .ensures) .0
 
-report : (c : tie.After-r) → let s : tie.Start = c .before .before .before .before .before .before .before .before in
-    let a = reportAs (Done (c .r .given .0 .0)) in
-    (a ≡ reportOf (fill (inWords (call s)))) × FilledFits a
-report c =
-    let f = c .before .before .before .before in
-    with-size FilledFits (sym (ap reportAs (c .r .given .1)) ∙ told f _ (f .fill-into-bytes .ensures) .0) (fill-small _)
-
-cast-t21 : tie.Need-cast-t21
-cast-t21 c = record { fits = omega (arith, report (c .before .before) .1) }
-
-cast-t22 : tie.Need-cast-t22
-cast-t22 c = record { fits = omega (arith, report (c .before .before .before) .1) }
-
-cast-t23 : tie.Need-cast-t23
-cast-t23 c = record { fits = omega (arith, report (c .before .before .before .before) .1) }
-
-enum-known-e : tie.Need-enum-known-e
-enum-known-e c = search needs
+fields-of-requires : tie.Need-fields-of-requires
+fields-of-requires c κs = with-size FilledFits (answer (c .before .before)) (fill-small _) .1
 
 same-length : tie.Need-same-length
 same-length c = search needs
 
 returns : tie.Need-returns
 returns c =
-    let arm = c .before .before .before .before in
-    let f = arm .before .before .before .before in
-    ((report arm .0, told f _ (f .fill-into-bytes .ensures) .1), report arm .1)
-
-same-length-2 : tie.Need-same-length-2
-same-length-2 c = search needs
-
-returns-2 : tie.Need-returns-2
-returns-2 c =
-    let f = c .before .before .before .before .before in
-    let t = told f _ (f .fill-into-bytes .ensures) in
-    let a = with-size FilledFits (sym (ap reportAs (c .before .e .given .1)) ∙ t .0) (fill-small _) in
-    ((a .0, t .1), a .1)
+    let f = c .before .before .before in
+    let a = with-size FilledFits (c .fields-of .ensures ∙ answer f) (fill-small _) in
+    ((a .0, told f _ (f .fill-into-bytes .ensures) .1), a .1)
 
 pub hpf-fill-spec : {M : Type 1} → statement M
 hpf-fill-spec =
     tie.close
-    (tie.spec
-    section-of-requires
-    fill-into-bytes-requires
-    enum-known-r
-    cast-t21
-    cast-t22
-    cast-t23
-    enum-known-e
-    same-length
-    returns
-    same-length-2
-    returns-2)
+    (tie.spec section-of-requires fill-into-bytes-requires fields-of-requires same-length returns)

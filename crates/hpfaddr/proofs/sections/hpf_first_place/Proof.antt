@@ -22,14 +22,14 @@ first-place-requires c κs = search needs
 
 abbrev section : tie.Start → Section
 section s =
-    sectionFrom (s .args .cells) (s .args .processors) (s .args .block) (s .args .stride) (s .args .offset) (s .args .size) (s .args .lower) (s .args .upper) (s .args .step)
+    sectionFrom (s .args .cells) (s .args .processors) (s .args .block) (s .args .stride) (s .args .offset) (s .args .size) (s .args .array-lower) (s .args .template-lower) (s .args .lower) (s .args .upper) (s .args .step)
 
 -- the answer, of the parameters
 answer : (c : tie.After-first-place) → let s : tie.Start = c .before .before in placedAs (c .first-place .result) ≡ firstPlaceAt (section s) (s .args .processor)
 answer c =
     let s = c .before .before in
     let x : c .before .section-of .result ≡ section s =
-    section-read _ _ _ _ _ _ _ _ _ (s .fits .cells) (s .fits .processors) (s .fits .block) (s .fits .stride) (s .fits .offset) (s .fits .size) (s .fits .lower) (s .fits .upper) (s .fits .step) (c .before .section-of .ensures) in
+    section-read _ _ _ _ _ _ _ _ _ _ _ (s .fits .cells) (s .fits .processors) (s .fits .block) (s .fits .stride) (s .fits .offset) (s .fits .size) (s .fits .array-lower) (s .fits .template-lower) (s .fits .lower) (s .fits .upper) (s .fits .step) (c .before .section-of .ensures) in
     c .first-place .ensures ∙ (λ i. firstPlaceAt (x i) (toZ-ofZ w64 (s .args .processor) (s .fits .processor) i))
 
 enum-known-t : tie.Need-enum-known-t
@@ -40,8 +40,8 @@ placed : (c : tie.After-t) → let s : tie.Start = c .before .before .before .be
     (a ≡ firstPlaceAt (section s) (s .args .processor)) × PlacedFits a
 placed c = with-size PlacedFits (sym (ap placedAs (c .t .given .1)) ∙ answer (c .before .before)) (first-place-small _ _)
 
-cast-t16 : tie.Need-cast-t16
-cast-t16 c = record { fits = omega (arith, placed (c .before .before) .1) }
+cast-t18 : tie.Need-cast-t18
+cast-t18 c = record { fits = omega (arith, placed (c .before .before) .1) }
 
 enum-known-e : tie.Need-enum-known-e
 enum-known-e c = search needs
@@ -60,7 +60,7 @@ hpf-first-place-spec =
     section-of-requires
     first-place-requires
     enum-known-t
-    cast-t16
+    cast-t18
     enum-known-e
     returns
     returns-2)

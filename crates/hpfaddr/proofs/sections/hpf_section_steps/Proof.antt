@@ -20,14 +20,14 @@ section-steps-requires c κs = search needs
 
 abbrev section : tie.Start → Section
 section s =
-    sectionFrom (s .args .cells) (s .args .processors) (s .args .block) (s .args .stride) (s .args .offset) (s .args .size) (s .args .lower) (s .args .upper) (s .args .step)
+    sectionFrom (s .args .cells) (s .args .processors) (s .args .block) (s .args .stride) (s .args .offset) (s .args .size) (s .args .array-lower) (s .args .template-lower) (s .args .lower) (s .args .upper) (s .args .step)
 
 -- the answer, of the parameters
 answer : (c : tie.After-section-steps) → stepsAs (c .section-steps .result) ≡ sectionSteps (section (c .before .before))
 answer c =
     let s = c .before .before in
     c .section-steps .ensures
-    ∙ ap sectionSteps (section-read _ _ _ _ _ _ _ _ _ (s .fits .cells) (s .fits .processors) (s .fits .block) (s .fits .stride) (s .fits .offset) (s .fits .size) (s .fits .lower) (s .fits .upper) (s .fits .step) (c .before .section-of .ensures))
+    ∙ ap sectionSteps (section-read _ _ _ _ _ _ _ _ _ _ _ (s .fits .cells) (s .fits .processors) (s .fits .block) (s .fits .stride) (s .fits .offset) (s .fits .size) (s .fits .array-lower) (s .fits .template-lower) (s .fits .lower) (s .fits .upper) (s .fits .step) (c .before .section-of .ensures))
 
 -- the fields of each case
 met : (c : tie.After-section-steps) (r : SectionSteps) {a : SectionStepsAnswer} → a ≡ stepsAs r → c .section-steps .result ≡ r

@@ -3,7 +3,7 @@ use mathlib.Core.Path.{_≡_}
 use mathlib.Core.Bool.{true}
 use borrow.Author.Needs.{needs}
 use lib.IntN.{pos}
-use Rattle.model.specs.Questions.{between, most, firstNo}
+use Rattle.model.specs.Questions.{between, most, least, firstNo}
 use Rattle.mapping.proofs.Signs.{said-no, said-yes}
 use Rattle.mapping.proofs.questions.dealing_refusal.Statement.{statement}
 use Rattle.mapping.proofs.questions.dealing_refusal.Tie as tie
@@ -79,6 +79,9 @@ stride-holds c =
     let s = c .before .before .before .before .before .before .before .before in
     said-yes (between (pos 1) most) (s .args .a) (s .fits .a) (c .before .within4 .ensures) (c .if4 .left)
 
+sub-within : tie.Need-sub-within
+sub-within c = search needs
+
 within-requires-5 : tie.Need-within-requires-5
 within-requires-5 c κs = search needs
 
@@ -95,7 +98,7 @@ returns-5 c =
       processors-hold e2,
       block-holds e3,
       stride-holds e4,
-      said-no (between (pos 0) most) (s .args .b) (s .fits .b) (c .before .within5 .ensures) (c .if5 .taken),
+      said-no (between least most) (s .args .b) (s .fits .b) (c .before .within5 .ensures) (c .if5 .taken),
     )
 
 returns-6 : tie.Need-returns-6
@@ -111,7 +114,7 @@ returns-6 c =
       processors-hold e2,
       block-holds e3,
       stride-holds e4,
-      said-yes (between (pos 0) most) (s .args .b) (s .fits .b) (c .before .within5 .ensures) (c .if5 .left),
+      said-yes (between least most) (s .args .b) (s .fits .b) (c .before .within5 .ensures) (c .if5 .left),
     )
 
 pub dealing-refusal-spec : {M : Type 1} → statement M
@@ -126,6 +129,7 @@ dealing-refusal-spec =
     returns-3
     within-requires-4
     returns-4
+    sub-within
     within-requires-5
     returns-5
     returns-6)

@@ -1,30 +1,23 @@
 -- `first_refusal` meets its contract: each return rewrites by the answers on the way to it.
 use Prim.Native.Nat.{ℕ, _≤_}
 use mathlib.Core.Path.{_≡_, sym, ap, _∙_}
-use mathlib.Core.Bool.{Bool, true}
+use mathlib.Core.Bool.{true}
 use native.Mathlib.Omega.{arith}
 use borrow.Author.Needs.{needs}
 use borrow.Author.Tests.{not-true, not-false}
-use lib.IntN.{ℤ, pos}
+use lib.IntN.{ℤ, pos, natAbs}
 use mir.Syntax.{w64}
-use mir.Val.{SFits}
 use mir.ValLaws.{toZ-ofZ}
-use Rattle.numbers.proofs.Signed.{back, read-of}
-use Rattle.model.specs.Ownership.{nat}
-use Rattle.model.specs.Questions.{between, most, firstNo, cellsFit}
-use Rattle.model.proofs.QuestionLaws.{Natural}
+use Rattle.numbers.proofs.Tests.{both-true}
+use Rattle.model.specs.declared.Mapping.{Mapping}
+use Rattle.model.specs.Ownership.{cellUnder, lastIndex, lastCell}
+use Rattle.model.specs.Questions.{AllYes, between, most, least, firstNo, boundsFit, cellsFit}
+use Rattle.model.proofs.QuestionLaws.{between-is, size-is}
+use Rattle.model.proofs.AcceptedLaws.{bounds-of}
 use Rattle.mapping.specs.Answers.{mappingOf, ofDealing}
+use Rattle.mapping.specs.Bounds.{Reached}
 use Rattle.mapping.proofs.Signs.{said-no, said-yes}
-use Rattle.mapping.proofs.Refusals.{
-  dealing-refused,
-  cells-in,
-  stride-in,
-  offset-in,
-  size-refused,
-  size-in,
-  cells-refused,
-  all-held,
-}
+use Rattle.mapping.proofs.Refusals.{dealing-refused, dealing-yes, size-refused, bounds-refused, cells-refused, all-held}
 use Rattle.mapping.proofs.questions.first_refusal.Statement.{statement}
 use Rattle.mapping.proofs.questions.first_refusal.Tie as tie
 
@@ -38,11 +31,14 @@ dealing c =
     c .dealing-refusal .ensures
     ∙ (λ i. firstNo (ofDealing (toZ-ofZ w64 (s .args .t) (s .fits .t) i) (toZ-ofZ w64 (s .args .p) (s .fits .p) i) (toZ-ofZ w64 (s .args .k) (s .fits .k) i) (toZ-ofZ w64 (s .args .a) (s .fits .a) i) (toZ-ofZ w64 (s .args .b) (s .fits .b) i)))
 
+abbrev asked : tie.Start → Mapping
+asked s = mappingOf (s .args .t) (s .args .p) (s .args .k) (s .args .a) (s .args .b) (s .args .n) (s .args .lower) (s .args .origin)
+
 returns : tie.Need-returns
 returns c =
     let s = c .before .before in
     let e = dealing (c .before) in
-    e ∙ dealing-refused (s .args .t) (s .args .p) (s .args .k) (s .args .a) (s .args .b) (s .args .n) (λ z. c .if1 .taken (e ∙ z))
+    e ∙ dealing-refused _ _ _ _ _ (s .args .n) (s .args .lower) (s .args .origin) (λ z. c .if1 .taken (e ∙ z))
 
 -- questions 1 to 4 hold
 dealt : (c : tie.Else1) → firstNo (ofDealing (c .before .before .args .t) (c .before .before .args .p) (c .before .before .args .k) (c .before .before .args .a) (c .before .before .args .b)) ≡ 0
@@ -55,7 +51,7 @@ returns-2 : tie.Need-returns-2
 returns-2 c =
     let e1 = c .before .before in
     let s = e1 .before .before in
-    size-refused (s .args .t) (s .args .p) (s .args .k) (s .args .a) (s .args .b) (s .args .n) (dealt e1)
+    size-refused _ _ _ _ _ (s .args .n) (s .args .lower) (s .args .origin) (dealt e1)
     (said-no (between (pos 0) most) (s .args .n) (s .fits .n) (c .before .within .ensures) (c .if2 .taken))
 
 abbrev start : tie.Else2 → tie.Start
@@ -65,75 +61,104 @@ sized : (c : tie.Else2) → between (pos 0) most (start c .args .n) ≡ true
 sized c =
     let s = start c in said-yes (between (pos 0) most) (s .args .n) (s .fits .n) (c .before .within .ensures) (c .if2 .left)
 
-natural-requires : tie.Need-natural-requires
-natural-requires c κs = search needs
+-- a number from 0 on is as small as its question says
+natural-small : (low : ℕ) (z : ℤ) → between (pos low) most z ≡ true → natAbs z ≤ 2147483647
+natural-small low z e = let w = between-is low 2147483647 z e in omega (arith, w .upto, ap natAbs (w .whole))
 
-natural-requires-2 : tie.Need-natural-requires-2
-natural-requires-2 c κs = search needs
+module _ (c : tie.Else2) where
+  yes-all : AllYes (ofDealing (start c .args .t) (start c .args .p) (start c .args .k) (start c .args .a) (start c .args .b))
+  yes-all = dealing-yes _ _ _ _ _ (start c .args .n) (start c .args .lower) (start c .args .origin) (dealt (c .before .before))
 
-natural-requires-3 : tie.Need-natural-requires-3
-natural-requires-3 c κs = search needs
+  size-small : natAbs (start c .args .n) ≤ 2147483647
+  size-small = natural-small 0 (start c .args .n) (sized c)
 
-natural-requires-4 : tie.Need-natural-requires-4
-natural-requires-4 c κs = search needs
+bounds-fit-requires : tie.Need-bounds-fit-requires
+bounds-fit-requires c κs =
+    let s = start c in
+    rw (toZ-ofZ w64 (s .args .t) (s .fits .t), toZ-ofZ w64 (s .args .n) (s .fits .n))
+    (natural-small 1 (s .args .t) (yes-all c .0), size-small c)
 
--- the numbers that `cells_fit` is called with are the parameters
-record Same (z : ℤ) (r : ℕ) : Type 0 where
-  is : z ≡ pos r
-  high : r ≤ 2147483647
-
-same : (low : ℕ) (z : ℤ) {r : ℕ} → SFits w64 z → r ≡ nat (back w64 z) → Natural z low 2147483647 → Same z r
-same low z fits e w =
-    let r = read-of w64 nat z fits e in
-    record { is = w .whole ∙ ap pos (sym r); high = omega (arith, w .upto) }
-
-record Called (c : tie.After-natural4) : Type 0 where
-  t : Same (start (c .before .before .before .before) .args .t) (c .before .before .before .natural .result)
-  a : Same (start (c .before .before .before .before) .args .a) (c .before .before .natural2 .result)
-  b : Same (start (c .before .before .before .before) .args .b) (c .before .natural3 .result)
-  n : Same (start (c .before .before .before .before) .args .n) (c .natural4 .result)
-
-called : (c : tie.After-natural4) → Called c
-called c =
-    let e2 = c .before .before .before .before in
-    let s = start e2 in
-    let ok = dealt (e2 .before .before) in
-    record {
-      t = same 1 (s .args .t) (s .fits .t) (c .before .before .before .natural .ensures) (cells-in _ _ _ _ _ (s .args .n) ok);
-      a = same 1 (s .args .a) (s .fits .a) (c .before .before .natural2 .ensures) (stride-in _ _ _ _ _ (s .args .n) ok);
-      b = same 0 (s .args .b) (s .fits .b) (c .before .natural3 .ensures) (offset-in _ _ _ _ _ (s .args .n) ok);
-      n = same 0 (s .args .n) (s .fits .n) (c .natural4 .ensures) (size-in _ _ _ _ _ (s .args .n) ok (sized e2));
-    }
-
-cells-fit-requires : tie.Need-cells-fit-requires
-cells-fit-requires c κs = let w = called c in (w .a .high, w .b .high, w .n .high)
-
-same-fit : (t p k a b n : ℤ) {f : Bool} {t′ a′ b′ n′ : ℕ} → Same t t′ → Same a a′ → Same b b′ → Same n n′
-    → f ≡ cellsFit (mappingOf (pos t′) (pos 1) (pos 1) (pos a′) (pos b′) (pos n′)) → f ≡ cellsFit (mappingOf t p k a b n)
-unfolding cellsFit
-same-fit t p k a b n et ea eb en h = rw (et .is, ea .is, eb .is, en .is) h
-
--- the answer of `cells_fit`, about the parameters
-fit : (c : tie.After-cells-fit)
-    → let s : tie.Start = start (c .before .before .before .before .before) in c .cells-fit .result ≡ cellsFit (mappingOf (s .args .t) (s .args .p) (s .args .k) (s .args .a) (s .args .b) (s .args .n))
-fit c =
-    let s = start (c .before .before .before .before .before) in
-    let w = called (c .before) in
-    same-fit (s .args .t) (s .args .p) (s .args .k) (s .args .a) (s .args .b) (s .args .n) (w .t) (w .a) (w .b) (w .n) (c .cells-fit .ensures)
+-- the answer to question 15
+bounds : (c : tie.After-bounds-fit) → c .bounds-fit .result ≡ boundsFit (asked (start (c .before)))
+unfolding boundsFit lastCell lastIndex
+bounds c =
+    let s = start (c .before) in
+    let t = toZ-ofZ w64 (s .args .t) (s .fits .t) in
+    let n = toZ-ofZ w64 (s .args .n) (s .fits .n) in
+    let l = toZ-ofZ w64 (s .args .lower) (s .fits .lower) in
+    let o = toZ-ofZ w64 (s .args .origin) (s .fits .origin) in
+    c .bounds-fit .ensures ∙ (λ i. boundsFit (mappingOf (t i) (pos 1) (pos 1) (pos 1) (pos 0) (n i) (l i) (o i)))
 
 returns-3 : tie.Need-returns-3
 returns-3 c =
-    let e2 = c .before .before .before .before .before .before in
+    let e2 = c .before .before in
     let s = start e2 in
-    cells-refused (s .args .t) (s .args .p) (s .args .k) (s .args .a) (s .args .b) (s .args .n) (dealt (e2 .before .before)) (sized e2)
-    (sym (fit (c .before)) ∙ not-true _ (c .if3 .taken))
+    bounds-refused _ _ _ _ _ (s .args .n) (s .args .lower) (s .args .origin) (dealt (e2 .before .before)) (sized e2)
+    (sym (bounds (c .before)) ∙ not-true _ (c .if3 .taken))
+
+bounded : (c : tie.Else3) → boundsFit (asked (start (c .before .before))) ≡ true
+bounded c = sym (bounds (c .before)) ∙ not-false _ (c .if3 .left)
+
+-- the numbers that `cells_fit` is called with are in range
+reached : (c : tie.Else3)
+    → let s : tie.Start = start (c .before .before) in Reached (s .args .a) (s .args .b) (s .args .n) (s .args .lower) (s .args .origin)
+unfolding lastIndex
+reached c =
+    let e2 = c .before .before in
+    let s = start e2 in
+    let w = bounds-of (asked s) (bounded c) in
+    let four = both-true (between (pos 1) most (s .args .a)) (between least most (s .args .b)) (yes-all e2 .1 .1 .1 .0) in
+    record {
+      first = record {
+        stride = natural-small 1 (s .args .a) (four .0);
+        offset = size-is (s .args .b) (four .1);
+        origin = w .origin;
+        index = w .lower;
+      };
+      size = size-small e2;
+      last = w .last;
+    }
+
+cells-fit-requires : tie.Need-cells-fit-requires
+cells-fit-requires c κs =
+    let s = start (c .before .before) in
+    rw (
+      toZ-ofZ w64 (s .args .a) (s .fits .a),
+      toZ-ofZ w64 (s .args .b) (s .fits .b),
+      toZ-ofZ w64 (s .args .n) (s .fits .n),
+      toZ-ofZ w64 (s .args .lower) (s .fits .lower),
+      toZ-ofZ w64 (s .args .origin) (s .fits .origin),
+    )
+    (reached c)
+
+-- the answer to the second half of question 5
+cells : (c : tie.After-cells-fit) → c .cells-fit .result ≡ cellsFit (asked (start (c .before .before .before)))
+unfolding cellsFit cellUnder lastIndex
+cells c =
+    let s = start (c .before .before .before) in
+    let t = toZ-ofZ w64 (s .args .t) (s .fits .t) in
+    let a = toZ-ofZ w64 (s .args .a) (s .fits .a) in
+    let b = toZ-ofZ w64 (s .args .b) (s .fits .b) in
+    let n = toZ-ofZ w64 (s .args .n) (s .fits .n) in
+    let l = toZ-ofZ w64 (s .args .lower) (s .fits .lower) in
+    let o = toZ-ofZ w64 (s .args .origin) (s .fits .origin) in
+    c .cells-fit .ensures ∙ (λ i. cellsFit (mappingOf (t i) (pos 1) (pos 1) (a i) (b i) (n i) (l i) (o i)))
 
 returns-4 : tie.Need-returns-4
 returns-4 c =
-    let e2 = c .before .before .before .before .before .before in
+    let e3 = c .before .before in
+    let e2 = e3 .before .before in
     let s = start e2 in
-    all-held (s .args .t) (s .args .p) (s .args .k) (s .args .a) (s .args .b) (s .args .n) (dealt (e2 .before .before)) (sized e2)
-    (sym (fit (c .before)) ∙ not-false _ (c .if3 .left))
+    cells-refused _ _ _ _ _ (s .args .n) (s .args .lower) (s .args .origin) (dealt (e2 .before .before)) (sized e2) (bounded e3)
+    (sym (cells (c .before)) ∙ not-true _ (c .if4 .taken))
+
+returns-5 : tie.Need-returns-5
+returns-5 c =
+    let e3 = c .before .before in
+    let e2 = e3 .before .before in
+    let s = start e2 in
+    all-held _ _ _ _ _ (s .args .n) (s .args .lower) (s .args .origin) (dealt (e2 .before .before)) (sized e2) (bounded e3)
+    (sym (cells (c .before)) ∙ not-false _ (c .if4 .left))
 
 pub first-refusal-spec : {M : Type 1} → statement M
 first-refusal-spec =
@@ -143,10 +168,8 @@ first-refusal-spec =
     returns
     within-requires
     returns-2
-    natural-requires
-    natural-requires-2
-    natural-requires-3
-    natural-requires-4
-    cells-fit-requires
+    bounds-fit-requires
     returns-3
-    returns-4)
+    cells-fit-requires
+    returns-4
+    returns-5)

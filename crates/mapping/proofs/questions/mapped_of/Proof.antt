@@ -1,19 +1,21 @@
 -- `mapped_of` meets its contract.
 use Prim.Native.Nat.{ℕ, _<_}
-use mathlib.Core.Path.{_≡_, refl, sym, _∙_}
+use mathlib.Core.Path.{_≡_, refl, sym, ap, _∙_}
 use native.Mathlib.Omega.{arith}
 use borrow.Author.Needs.{needs}
 use borrow.Author.Tests.{eq-eqb, ne-eqb}
+use lib.IntN.{ℤ, natAbs, _+ℤ_, _-ℤ_, _*ℤ_}
 use mir.Syntax.{w64}
 use mir.ValLaws.{toZ-ofZ}
 use Rattle.numbers.proofs.Signed.{read-of}
 use Rattle.model.specs.declared.Mapping.{Mapping}
 use Rattle.model.specs.declared.Layout.{Layout}
-use Rattle.model.specs.Ownership.{nat, layoutOf}
+use Rattle.model.specs.Ownership.{nat, cellUnder, layoutOf}
 use Rattle.model.specs.Questions.{firstNo, ofMapping}
-use Rattle.model.proofs.QuestionLaws.{mapped}
+use Rattle.model.proofs.AcceptedLaws.{whole-mapping, bounds-in, offset-small, mapped}
 use Rattle.mapping.specs.declared.questions.Mapped.the-variants.{By, Refused}
 use Rattle.mapping.specs.Answers.{mappingOf, mappedOf, Sound}
+use Rattle.mapping.specs.Bounds.{Aligned}
 use Rattle.mapping.proofs.questions.mapped_of.Statement.{statement}
 use Rattle.mapping.proofs.questions.mapped_of.Tie as tie
 
@@ -21,14 +23,14 @@ first-refusal-requires : tie.Need-first-refusal-requires
 first-refusal-requires c κs = search needs
 
 abbrev asked : tie.Start → Mapping
-asked s = mappingOf (s .args .t) (s .args .p) (s .args .k) (s .args .a) (s .args .b) (s .args .n)
+asked s = mappingOf (s .args .t) (s .args .p) (s .args .k) (s .args .a) (s .args .b) (s .args .n) (s .args .lower) (s .args .origin)
 
 -- the first refusal, of the parameters
 first : (c : tie.After-first-refusal) → c .first-refusal .result ≡ firstNo (ofMapping (asked (c .before)))
 first c =
     let s = c .before in
     c .first-refusal .ensures
-    ∙ (λ i. firstNo (ofMapping (mappingOf (toZ-ofZ w64 (s .args .t) (s .fits .t) i) (toZ-ofZ w64 (s .args .p) (s .fits .p) i) (toZ-ofZ w64 (s .args .k) (s .fits .k) i) (toZ-ofZ w64 (s .args .a) (s .fits .a) i) (toZ-ofZ w64 (s .args .b) (s .fits .b) i) (toZ-ofZ w64 (s .args .n) (s .fits .n) i))))
+    ∙ (λ i. firstNo (ofMapping (mappingOf (toZ-ofZ w64 (s .args .t) (s .fits .t) i) (toZ-ofZ w64 (s .args .p) (s .fits .p) i) (toZ-ofZ w64 (s .args .k) (s .fits .k) i) (toZ-ofZ w64 (s .args .a) (s .fits .a) i) (toZ-ofZ w64 (s .args .b) (s .fits .b) i) (toZ-ofZ w64 (s .args .n) (s .fits .n) i) (toZ-ofZ w64 (s .args .lower) (s .fits .lower) i) (toZ-ofZ w64 (s .args .origin) (s .fits .origin) i))))
 
 refused : (m : Mapping) (q : ℕ) → (q ≡ 0 → ⊥) → q ≡ firstNo (ofMapping m) → (Refused q ≡ mappedOf m) × (0 < q)
 unfolding mappedOf
@@ -55,15 +57,43 @@ natural-requires-5 c κs = search needs
 natural-requires-6 : tie.Need-natural-requires-6
 natural-requires-6 c κs = search needs
 
-accepted : (m : Mapping) (l : Layout) → firstNo (ofMapping m) ≡ 0 → l ≡ layoutOf m → (By l ≡ mappedOf m) × Sound (By l)
+accepted : (m : Mapping) (l : Layout) (lower : ℤ) → firstNo (ofMapping m) ≡ 0 → l ≡ layoutOf m → lower ≡ m .lower
+    → (By l lower ≡ mappedOf m) × Sound (By l lower)
 unfolding mappedOf
-accepted m l ok e = rw (e, eq-eqb (firstNo (ofMapping m)) 0 ok) (refl, mapped m ok)
+accepted m l lower ok e f = rw (e, f, eq-eqb (firstNo (ofMapping m)) 0 ok) (refl, (mapped m ok, bounds-in m ok .lower))
+
+-- nothing was answered no
+none : (c : tie.Else1) → firstNo (ofMapping (asked (c .before .before))) ≡ 0
+none c = sym (first (c .before)) ∙ c .if1 .left
+
+aligned : (m : Mapping) → firstNo (ofMapping m) ≡ 0 → Aligned (m .stride) (m .offset) (m .origin) (m .lower)
+aligned m ok =
+    let b = bounds-in m ok in
+    record {
+      stride = omega (arith, ap natAbs (whole-mapping m ok .stride), mapped m ok .stride-high);
+      offset = offset-small m ok;
+      origin = b .origin;
+      index = b .lower;
+    }
+
+cell-under-requires : tie.Need-cell-under-requires
+cell-under-requires c κs =
+    let e1 = c .before .before .before .before in
+    let s = e1 .before .before in
+    rw (
+      toZ-ofZ w64 (s .args .a) (s .fits .a),
+      toZ-ofZ w64 (s .args .b) (s .fits .b),
+      toZ-ofZ w64 (s .args .origin) (s .fits .origin),
+      toZ-ofZ w64 (s .args .lower) (s .fits .lower),
+    )
+    (aligned (asked s) (none e1))
 
 returns-2 : tie.Need-returns-2
-unfolding layoutOf
+unfolding layoutOf cellUnder
 returns-2 c =
     let n5 = c .before in
-    let n4 = n5 .before in
+    let cell = n5 .before in
+    let n4 = cell .before in
     let n3 = n4 .before in
     let n2 = n3 .before in
     let n1 = n2 .before in
@@ -73,10 +103,17 @@ returns-2 c =
     let p = read-of w64 nat (s .args .p) (s .fits .p) (n2 .natural2 .ensures) in
     let k = read-of w64 nat (s .args .k) (s .fits .k) (n3 .natural3 .ensures) in
     let a = read-of w64 nat (s .args .a) (s .fits .a) (n4 .natural4 .ensures) in
-    let b = read-of w64 nat (s .args .b) (s .fits .b) (n5 .natural5 .ensures) in
+    let stride = toZ-ofZ w64 (s .args .a) (s .fits .a) in
+    let offset = toZ-ofZ w64 (s .args .b) (s .fits .b) in
+    let origin = toZ-ofZ w64 (s .args .origin) (s .fits .origin) in
+    let lower = toZ-ofZ w64 (s .args .lower) (s .fits .lower) in
+    let b =
+    read-of w64 nat (cell .cell-under .result) (record { sfits = cell .cell-under .ok }) (n5 .natural5 .ensures)
+    ∙ ap nat (cell .cell-under .ensures ∙ (λ i. stride i *ℤ lower i +ℤ offset i -ℤ origin i)) in
     let n = read-of w64 nat (s .args .n) (s .fits .n) (c .natural6 .ensures) in
-    accepted (asked s) _ (sym (first (e1 .before)) ∙ e1 .if1 .left)
+    accepted (asked s) _ _ (none e1)
     (λ i. record { cells = t i; processors = p i; block = k i; stride = a i; offset = b i; size = n i })
+    lower
 
 pub mapped-of-spec : {M : Type 1} → statement M
 mapped-of-spec =
@@ -88,6 +125,7 @@ mapped-of-spec =
     natural-requires-2
     natural-requires-3
     natural-requires-4
+    cell-under-requires
     natural-requires-5
     natural-requires-6
     returns-2)

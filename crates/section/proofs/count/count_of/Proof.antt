@@ -11,7 +11,7 @@ use mir.ValLaws.{toZ-ofZ}
 use Rattle.numbers.proofs.Signed.{size-add, size-sub, size-quot-le, small-fits, back, fits-as, back-as}
 use Rattle.model.specs.Ownership.{nat}
 use Rattle.model.specs.Sections.{countOf}
-use Rattle.model.proofs.QuestionLaws.{Ranged, ranged}
+use Rattle.model.proofs.AcceptedLaws.{Ranged, ranged}
 use Rattle.section.specs.Strides.{tripletOf}
 use Rattle.section.proofs.count.count_of.Statement.{statement}
 use Rattle.section.proofs.count.count_of.Tie as tie

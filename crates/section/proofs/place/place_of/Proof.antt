@@ -20,7 +20,8 @@ cell-of-requires : tie.Need-cell-of-requires
 cell-of-requires c κs =
     let else1 = c .before .before in
     let b = else1 .before .before .pre .0 in
-    (b .sized, le-of-lt (b .first-inside (pos-of-ne-zero (else1 .if1 .left))))
+    let inside = b .first-inside (pos-of-ne-zero (else1 .if1 .left)) in
+    (b .sized, (le-of-lt inside, omega (arith, inside)))
 
 rem-c : tie.Need-rem-c
 rem-c c =

@@ -1,11 +1,14 @@
 -- `ask_section` meets its contract: the fields of 64 bits are read back as the numbers they are.
 use mathlib.Core.Path.{_≡_, sym, _∙_, subst}
+use native.Mathlib.Omega.{arith}
 use borrow.Author.Needs.{needs}
 use mir.Syntax.{w64}
 use mir.ValLaws.{toZ-ofZ}
+use Rattle.numbers.proofs.Signed.{small-fits}
 use Rattle.model.specs.declared.Section.{Section}
+use Rattle.mapping.specs.Answers as mapping
 use Rattle.section.specs.declared.questions.Asked.{Asked}
-use Rattle.section.specs.Answers.{tripletAsked, sectionOf, askedOf, Sound}
+use Rattle.section.specs.Answers.{askedIn, askedOf, Sound}
 use Rattle.section.proofs.SectionAnswers.{sound, mapping-accepted, mapping-refused}
 use Rattle.section.proofs.questions.ask_section.Statement.{statement}
 use Rattle.section.proofs.questions.ask_section.Tie as tie
@@ -20,7 +23,11 @@ enum-known-l : tie.Need-enum-known-l
 enum-known-l c = search needs
 
 triplet-asked-requires : tie.Need-triplet-asked-requires
-triplet-asked-requires c κs = search needs
+triplet-asked-requires c κs =
+    let payload = c .before .before .before .before in
+    let known = payload .l .given in
+    let sound = subst mapping.Sound (known .1) (payload .before .before .ask-mapping .ensures .1) in
+    rw (toZ-ofZ w64 (known .0 .1 .0) (small-fits w64 (known .0 .1 .0) (omega (arith, sound .1)))) (sound .1)
 
 enum-known-q : tie.Need-enum-known-q
 enum-known-q c = search needs
@@ -31,13 +38,15 @@ returns c =
     let payload = c .before .before .before .before .before in
     let asked = payload .before .before in
     let x = asked .before .before .before .args .x in
-    let m = payload .l .given .0 .0 in
+    let known = payload .l .given in
+    let sound = subst mapping.Sound (known .1) (asked .ask-mapping .ensures .1) in
+    let lower = toZ-ofZ w64 (known .0 .1 .0) (small-fits w64 (known .0 .1 .0) (omega (arith, sound .1))) in
     let l = toZ-ofZ w64 (x .triplet .lower) (record { sfits = told .0 .1 }) in
     let h = toZ-ofZ w64 (x .triplet .upper) (record { sfits = told .1 .0 .1 }) in
     let s = toZ-ofZ w64 (x .triplet .stride) (record { sfits = told .1 .1 .0 .1 }) in
     answered x
-    (c .triplet-asked .ensures ∙ (λ i. tripletAsked (sectionOf m (l i) (h i) (s i)))
-    ∙ mapping-accepted x m (sym (asked .ask-mapping .ensures .0) ∙ payload .l .given .1))
+    (c .triplet-asked .ensures ∙ (λ i. askedIn (known .0 .0) (lower i) (l i) (h i) (s i))
+    ∙ mapping-accepted x _ _ (sym (asked .ask-mapping .ensures .0) ∙ known .1))
 
 returns-2 : tie.Need-returns-2
 returns-2 c =

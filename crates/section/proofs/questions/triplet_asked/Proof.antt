@@ -5,16 +5,17 @@ use mathlib.Core.Bool.{true}
 use native.Mathlib.Omega.{arith}
 use borrow.Author.Needs.{needs}
 use borrow.Author.Tests.{not-true, not-false}
-use lib.IntN.{pos, natAbs}
+use lib.IntN.{ℤ, pos, natAbs, _-ℤ_}
 use lib.Signed.{leZ}
 use mir.Syntax.{w64}
+use mir.Val.{SFits}
 use mir.ValLaws.{toZ-ofZ}
-use Rattle.numbers.proofs.Signed.{back, read-of}
+use Rattle.numbers.proofs.Signed.{size-sub, small-fits, back, read-of, fits-as, back-as}
 use Rattle.model.specs.declared.Triplet.{Triplet}
 use Rattle.model.specs.Ownership.{nat}
 use Rattle.model.specs.Sections.{countOf}
 use Rattle.model.specs.Questions.{inRange}
-use Rattle.model.proofs.QuestionLaws.{ranged}
+use Rattle.model.proofs.AcceptedLaws.{Ranged, ranged}
 use Rattle.section.specs.declared.questions.Asked.the-variants.{By}
 use Rattle.section.specs.Strides.{tripletOf, endsIn}
 use Rattle.section.proofs.TripletAnswers.{count-small, range-refused, ends-refused, triplet-accepted}
@@ -42,7 +43,7 @@ ranges c = c .in-range .ensures ∙ ap inRange (read (c .before))
 returns : tie.Need-returns
 returns c =
     let s = c .before .before in
-    range-refused (s .args .m) (s .args .l) (s .args .h) (s .args .s) (sym (ranges (c .before)) ∙ not-true _ (c .if1 .taken))
+    range-refused (s .args .m) (s .args .lower) (s .args .l) (s .args .h) (s .args .s) (sym (ranges (c .before)) ∙ not-true _ (c .if1 .taken))
 
 module _ (c : tie.Else1) where
   abbrev start : tie.Start
@@ -50,6 +51,22 @@ module _ (c : tie.Else1) where
 
   in-range : inRange (asked start) ≡ true
   in-range = sym (ranges (c .before)) ∙ not-false _ (c .if1 .left)
+
+  small : Ranged (start .args .l) (start .args .h) (start .args .s)
+  small = ranged (asked start) in-range
+
+  -- l counted from 0
+  abbrev from : ℤ
+  from = start .args .l -ℤ start .args .lower
+
+  taken : back w64 (start .args .l) -ℤ back w64 (start .args .lower) ≡ from
+  taken = λ i. toZ-ofZ w64 (start .args .l) (start .fits .l) i -ℤ toZ-ofZ w64 (start .args .lower) (start .fits .lower) i
+
+  from-small : natAbs from ≤ 4294967294
+  from-small = omega (arith, size-sub (start .args .l) (start .args .lower), small .lower, start .pre)
+
+  from-fits : SFits w64 from
+  from-fits = small-fits w64 from (omega (arith, from-small))
 
 count-of-requires : tie.Need-count-of-requires
 count-of-requires c κs = ap inRange (read (start c)) ∙ in-range c
@@ -63,25 +80,30 @@ module _ (c : tie.After-count-of) where
       let s = start (c .before) in
       omega (arith, count-is, count-small (s .args .l) (s .args .h) (s .args .s) (in-range (c .before)))
 
+sub-first : tie.Need-sub-first
+sub-first c = let e1 = c .before in fits-as w64 (taken e1) (from-fits e1)
+
 ends-in-requires : tie.Need-ends-in-requires
 ends-in-requires c κs =
-    let s = start (c .before) in
-    let r = ranged (asked s) (in-range (c .before)) in
-    rw (toZ-ofZ w64 (s .args .l) (s .fits .l), toZ-ofZ w64 (s .args .s) (s .fits .s)) (r .lower, r .step, few c)
+    let e1 = c .before in
+    let s = start e1 in
+    rw (back-as w64 (taken e1) (from-fits e1), toZ-ofZ w64 (s .args .s) (s .fits .s)) (from-small e1, small e1 .step, few c)
 
 -- the answer to question 7
 ends : (c : tie.After-ends-in)
-    → let s : tie.Start = start (c .before .before) in c .ends-in .result ≡ endsIn (s .args .m .size) (s .args .l) (s .args .s) (countOf (asked s))
+    → let s : tie.Start = start (c .before .before) in c .ends-in .result ≡ endsIn (s .args .m .size) (from (c .before .before)) (s .args .s) (countOf (asked s))
 ends c =
-    let s = start (c .before .before) in
-    let t = read s in
-    c .ends-in .ensures ∙ (λ i. endsIn (s .args .m .size) (t i .lower) (t i .stride) (count-is (c .before) i))
+    let e1 = c .before .before in
+    let s = start e1 in
+    let first = back-as w64 (taken e1) (from-fits e1) in
+    let step = toZ-ofZ w64 (s .args .s) (s .fits .s) in
+    c .ends-in .ensures ∙ (λ i. endsIn (s .args .m .size) (first i) (step i) (count-is (c .before) i))
 
 returns-2 : tie.Need-returns-2
 returns-2 c =
     let e1 = c .before .before .before in
     let s = start e1 in
-    ends-refused (s .args .m) (s .args .l) (s .args .h) (s .args .s) (in-range e1)
+    ends-refused (s .args .m) (s .args .lower) (s .args .l) (s .args .h) (s .args .s) (in-range e1)
     (sym (ends (c .before)) ∙ not-true _ (c .if2 .taken))
 
 natural-requires : tie.Need-natural-requires
@@ -91,7 +113,7 @@ size-of-requires : tie.Need-size-of-requires
 size-of-requires c κs =
     let e1 = c .before .before .before .before in
     let s = start e1 in
-    rw (toZ-ofZ w64 (s .args .s) (s .fits .s)) (ranged (asked s) (in-range e1) .step)
+    rw (toZ-ofZ w64 (s .args .s) (s .fits .s)) (small e1 .step)
 
 returns-3 : tie.Need-returns-3
 returns-3 c =
@@ -101,11 +123,11 @@ returns-3 c =
     let e1 = counted .before in
     let s = start e1 in
     let count = count-is counted in
-    let first = read-of w64 nat (s .args .l) (s .fits .l) (n .natural .ensures) in
+    let first = n .natural .ensures ∙ ap nat (back-as w64 (taken e1) (from-fits e1)) in
     let stride = read-of w64 natAbs (s .args .s) (s .fits .s) (c .size-of .ensures) in
     let up = ap (leZ (pos 0)) (toZ-ofZ w64 (s .args .s) (s .fits .s)) in
     (λ i. By (record { layout = s .args .m; count = count i; first = first i; stride = stride i; upward = up i }))
-    ∙ triplet-accepted (s .args .m) (s .args .l) (s .args .h) (s .args .s) (in-range e1)
+    ∙ triplet-accepted (s .args .m) (s .args .lower) (s .args .l) (s .args .h) (s .args .s) (in-range e1)
     (sym (ends (e2 .before)) ∙ not-false _ (e2 .if2 .left))
 
 pub triplet-asked-spec : {M : Type 1} → statement M
@@ -115,6 +137,7 @@ triplet-asked-spec =
     in-range-requires
     returns
     count-of-requires
+    sub-first
     ends-in-requires
     returns-2
     natural-requires

@@ -5,27 +5,30 @@ use Prim.Native.Nat.{_-_, _<_}
 use mathlib.Core.Path.{ap}
 use native.Mathlib.Omega.{arith}
 use lib.ListN.{drop}
-use Rattle.sheet.specs.Reading.{rows}
-use Rattle.sheet.specs.Parts.{line, limit, Room}
+use Rattle.sheet.specs.Parts.{line, limit, lines, Room}
+use Rattle.sheet.specs.Contents.{noLine}
 use Rattle.sheet.specs.Answers.{lineFound}
 use Rattle.sheet.proofs.PartLaws.{part-most}
 use Rattle.sheet.proofs.AnswerLaws.{known, line-failed}
 use Rattle.sheet.proofs.LineLaws.{can-name}
-use Rattle.sheet.proofs.RowLaws.{Filling, none-read, one-read, one-refused, all-read, part-off}
+use Rattle.sheet.proofs.RowLaws.{Filling, none-read, one-read, one-refused, part-off, part-full}
 use Rattle.sheet.proofs.part.lines_at.Statement.{statement}
 use Rattle.sheet.proofs.part.lines_at.Tie as tie
 
 abbrev Inv-loop : tie.InvT-loop
-Inv-loop s kind n rows₀ at₀ i₀ lines at i =
-    (n < limit kind) × Room kind × Filling s (line kind) n (rows (line kind) n (drop at₀ s)) lines at i
+Inv-loop s kind n rows₀ at₀ i₀ rows at i =
+    (n < limit kind) × Room kind × Filling noLine 64 s (λ m. line kind) n (lines kind n (drop at₀ s)) rows at i
 
 abbrev μ-loop : tie.MeasureT-loop
-μ-loop s kind n rows₀ at₀ i₀ lines at i = n - i
+μ-loop s kind n rows₀ at₀ i₀ rows at i = n - i
 
 loop-holds : tie.Need-loop-holds Inv-loop μ-loop
 loop-holds c =
-    let k = c .before in
-    (k .pre .1, k .pre .2, none-read (k .args .s .now) (line (k .args .kind)) (k .args .n) (k .args .c .at) (k .pre .0))
+    let k = c .before in (
+      k .pre .1,
+      k .pre .2,
+      none-read noLine 64 (k .args .s .now) (λ m. line (k .args .kind)) (k .args .n) (k .args .c .at) (k .pre .0),
+    )
 
 line-at-requires : tie.Need-line-at-requires Inv-loop μ-loop
 line-at-requires c κs =
@@ -50,7 +53,7 @@ returns c =
     let r = c .before .before .before .before .line-at in
     let k = c .before .before .before .before .before .before in
     rw (c .refused .ensures, c .before .line-place .ensures)
-    (part-off (one-refused _ _ _ (k .loop .inv .2) (omega arith)
+    (part-off (one-refused _ _ _ _ _ (k .loop .inv .2) (omega arith)
     (known (line-failed (r .result) (c .before .before .before .match .keys2)) (r .ensures))))
 
 mul-rows : tie.Need-mul-rows Inv-loop μ-loop
@@ -74,14 +77,14 @@ loop-again c =
     let k = c .before .before .before .before .before in (
       k .loop .inv .0,
       k .loop .inv .1,
-      one-read _ _ _ (k .loop .inv .2) (omega arith) (omega (arith, part-most (k .before .before .args .kind)))
+      one-read _ _ _ _ _ (k .loop .inv .2) (omega arith) (omega (arith, part-most (k .before .before .args .kind)))
           (known (ap lineFound (c .before .q .given .1)) (c .before .before .before .line-at .ensures)),
     )
 
 returns-2 : tie.Need-returns-2 Inv-loop μ-loop
 returns-2 c =
     let k = c .before in
-    all-read _ _ _ (k .loop .inv .2) (c .loop-test .left) (omega (arith, part-most (k .before .before .args .kind)))
+    part-full (k .loop .inv .2) (c .loop-test .left) (omega (arith, part-most (k .before .before .args .kind)))
 
 pub lines-at-spec : {M : Type 1} → statement M
 lines-at-spec =

@@ -2,7 +2,7 @@
 use mathlib.Core.Path.{ap}
 use native.Mathlib.Omega.{arith}
 use Rattle.sheet.specs.Numbers.{natural}
-use Rattle.sheet.specs.Parts.{three}
+use Rattle.sheet.specs.Parts.{numbered}
 use Rattle.sheet.specs.Answers.{naturalFound, lineFound}
 use Rattle.sheet.proofs.AnswerLaws.{only-failed, second-only, known, natural-failed}
 use borrow.Author.Needs.{needs}
@@ -25,11 +25,11 @@ returns : tie.Need-returns
 returns c =
     let r = c .before .before .before .natural-at in
     rw (c .natural-place .ensures)
-    (only-failed (natural 0 _ 32) (λ a. three a 10)
+    (only-failed (natural 0 _ 32) (numbered (c .before .before .before .before .before .args .n))
     (known (natural-failed (r .result) (c .before .before .match .keys2)) (r .ensures)))
 
-three-at-requires : tie.Need-three-at-requires
-three-at-requires c κs = (
+numbers-at-requires : tie.Need-numbers-at-requires
+numbers-at-requires c κs = (
   known (ap naturalFound (c .before .q .given .1))
       (c .before .before .before .natural-at .ensures) .within,
   omega arith,
@@ -38,8 +38,8 @@ three-at-requires c κs = (
 returns-2 : tie.Need-returns-2
 returns-2 c =
     let c1 = c .before .before in
-    second-only (natural 0 _ 32) (λ a. three a 10) (lineFound (c .three-at .result))
-    (known (ap naturalFound (c1 .q .given .1)) (c1 .before .before .natural-at .ensures)) (c .three-at .ensures)
+    second-only (natural 0 _ 32) (numbered (c1 .before .before .before .before .args .n)) (lineFound (c .numbers-at .result))
+    (known (ap naturalFound (c1 .q .given .1)) (c1 .before .before .natural-at .ensures)) (c .numbers-at .ensures)
 
 pub named-at-spec : {M : Type 1} → statement M
 named-at-spec =
@@ -50,5 +50,5 @@ named-at-spec =
     enum-told
     natural-place-requires
     returns
-    three-at-requires
+    numbers-at-requires
     returns-2)

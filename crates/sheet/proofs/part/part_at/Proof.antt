@@ -1,9 +1,8 @@
 -- `part_at` meets its contract.
 use mathlib.Core.Path.{ap}
 use native.Mathlib.Omega.{arith}
-use Rattle.sheet.specs.Reading.{rows}
 use Rattle.sheet.specs.Numbers.{natural}
-use Rattle.sheet.specs.Parts.{line, limit}
+use Rattle.sheet.specs.Parts.{limit, lines}
 use Rattle.sheet.specs.Answers.{naturalFound}
 use Rattle.sheet.proofs.PartLaws.{part-some, part-most}
 use Rattle.sheet.proofs.AnswerLaws.{only-failed, known, natural-failed, natural-small}
@@ -36,7 +35,7 @@ returns c =
     let k = c .before .before .before .before .before .before .before in
     let a = rw (c .before .before .before .before .before .limit-of .ensures) at (r .ensures) in
     rw (c .refused .ensures, c .before .natural-place .ensures)
-    (part-off (only-failed (natural 0 (limit (k .args .kind)) 10) (rows (line (k .args .kind)))
+    (part-off (only-failed (natural 0 (limit (k .args .kind)) 10) (lines (k .args .kind))
     (known (natural-failed (r .result) (c .before .before .before .match .keys2)) a)))
 
 lines-at-requires : tie.Need-lines-at-requires

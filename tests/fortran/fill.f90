@@ -91,11 +91,7 @@ contains
     if (list_bytes > 0) list = c_loc(memory(2))
   end function list_in
 
-  ! Stops the program where the two forms of a call differ.
-  subroutine expect_same(plain, typed)
-    integer(c_int32_t), intent(in) :: plain(:), typed(:)
-    if (any(plain /= typed)) error stop 'the two forms of a call differ'
-  end subroutine expect_same
+  include 'same.inc'
 
   subroutine print_section(m, s)
     type(hpf_mapping), intent(in) :: m

@@ -53,11 +53,7 @@ contains
     call expect_same(transfer(counted, [0_c_int32_t]), transfer(hpf_local_count(m, processor), [0_c_int32_t]))
   end function local_count
 
-  ! Stops the program where the two forms of a call differ.
-  subroutine expect_same(plain, typed)
-    integer(c_int32_t), intent(in) :: plain(:), typed(:)
-    if (any(plain /= typed)) error stop 'the two forms of a call differ'
-  end subroutine expect_same
+  include 'same.inc'
 
   subroutine print_mapping(m)
     type(hpf_mapping), intent(in) :: m

@@ -113,24 +113,10 @@ pub fn compare_sections(comparison: &mut Comparison) -> Result<String, Differenc
     let [t, p, k, a, b, n, la, lt] = MAPPINGS_OF_SECTIONS;
     let steps = [t, p, k, a, b, n, la, lt, l, h, s];
     combine(comparison, steps, section_steps)?;
-    let places = [t, p, k, a, b, n, la, lt, l, h, s, PROCESSORS_BACK];
+    let (q, place, quota) = (PROCESSORS_BACK, PLACES, QUOTAS);
+    let places = [t, p, k, a, b, n, la, lt, l, h, s, q];
     combine(comparison, places, first_place)?;
-    let fills = [
-        t,
-        p,
-        k,
-        a,
-        b,
-        n,
-        la,
-        lt,
-        l,
-        h,
-        s,
-        PROCESSORS_BACK,
-        PLACES,
-        QUOTAS,
-    ];
+    let fills = [t, p, k, a, b, n, la, lt, l, h, s, q, place, quota];
     combine(comparison, fills, fill)?;
     Ok("sections with bounds at and past their limits, in all combinations".to_string())
 }

@@ -1,5 +1,5 @@
 -- The sign of a number, the natural number that it is, and what the machine's answers say of a parameter.
-use Prim.Native.Nat.{ℕ, zero-le, _<_}
+use Prim.Native.Nat.{ℕ, zero-le, _≤_, _<_}
 use mathlib.Core.Path.{_≡_, refl, sym, _∙_}
 use mathlib.Core.Bool.{Bool, true, false, not, false≢true}
 use native.Mathlib.Omega.{arith}
@@ -9,7 +9,8 @@ use lib.IntN.{ℤ, pos, negsuc, natAbs}
 use lib.Signed.{ltZ, nonNeg}
 use mir.Syntax.{w64}
 use mir.Val.{SFits}
-use Rattle.numbers.proofs.Signed.{back, read-of}
+use mir.ValLaws.{toZ-ofZ}
+use Rattle.numbers.proofs.Signed.{small-fits, back, read-of}
 use Rattle.model.specs.Ownership.{nat}
 use Rattle.model.specs.Questions.{isBelow}
 use Rattle.model.proofs.QuestionLaws.{below-is}
@@ -44,6 +45,10 @@ module _ {f : Bool} (test : ℤ → Bool) (z : ℤ) (fits : SFits w64 z) (e : f 
 
   pub said-yes : not f ≡ false → test z ≡ true
   said-yes t = sym (read-of w64 test z fits e) ∙ not-false f t
+
+-- a bound in range is read back as the number it is
+pub bound-read : (z : ℤ) → natAbs z ≤ 2147483647 → back w64 z ≡ z
+bound-read z h = toZ-ofZ w64 z (small-fits w64 z (omega arith))
 
 -- what `natural` gives of a number that is below n is below n
 pub below-natural : (z : ℤ) (n : ℕ) {r : ℕ} → SFits w64 z → r ≡ nat (back w64 z) → isBelow (pos n) z ≡ true → r < n

@@ -176,8 +176,6 @@ index-small m ok i h =
 
 pub record Accepted (x : Section) : Type 0 where
   pub sized : Sized (layout x)
-  pub lower-high : natAbs (x .triplet .lower) ≤ 2147483647
-  pub upper-high : natAbs (x .triplet .upper) ≤ 2147483647
   pub step-pos : 0 < natAbs (x .triplet .stride)
   pub step-high : natAbs (x .triplet .stride) ≤ 2147483647
   pub first-inside : 0 < count x → isIndex (x .mapping) (elementAt (x .triplet) 0) ≡ true
@@ -235,8 +233,6 @@ module _ (x : Section) (ok : firstNo (ofSection x) ≡ 0) where
   accepted =
       record {
         sized = mapped (x .mapping) mapping-yes;
-        lower-high = in-range .lower;
-        upper-high = in-range .upper;
         step-pos = in-range .some;
         step-high = in-range .step;
         first-inside = λ h. both-true first last (ends h) .0;

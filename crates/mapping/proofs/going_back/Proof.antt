@@ -1,11 +1,10 @@
 -- `going_back` meets its contract.
 use mathlib.Core.Path.{sym, ap, subst, _∙_}
-use native.Mathlib.Omega.{arith}
 use borrow.Author.Needs.{needs}
 use mir.Syntax.{w64}
 use mir.ValLaws.{toZ-ofZ}
-use Rattle.numbers.proofs.Signed.{small-fits}
 use Rattle.mapping.specs.Answers.{Sound, refusalIn, notFound, goingBackIn}
+use Rattle.mapping.proofs.Signs.{bound-read}
 use Rattle.mapping.proofs.CallLaws.{going-back-refused, going-back-by}
 use Rattle.mapping.proofs.going_back.Statement.{statement}
 use Rattle.mapping.proofs.going_back.Tie as tie
@@ -34,7 +33,7 @@ found-in-requires : tie.Need-found-in-requires
 found-in-requires c κs =
     let known = c .before .asked .given in
     let sound = subst Sound (known .1) (c .before .before .before .ask-mapping .ensures .1) in
-    rw (toZ-ofZ w64 (known .0 .1 .0) (small-fits w64 (known .0 .1 .0) (omega (arith, sound .1)))) sound
+    rw (bound-read (known .0 .1 .0) (sound .1)) sound
 
 returns-2 : tie.Need-returns-2
 returns-2 c =
@@ -42,7 +41,7 @@ returns-2 c =
     let asked = c .before .before .before .before in
     let s = asked .before in
     let sound = subst Sound (known .1) (asked .ask-mapping .ensures .1) in
-    let lower = toZ-ofZ w64 (known .0 .1 .0) (small-fits w64 (known .0 .1 .0) (omega (arith, sound .1))) in
+    let lower = bound-read (known .0 .1 .0) (sound .1) in
     c .found-in .ensures
     ∙ (λ i. goingBackIn (known .0 .0) (lower i) (toZ-ofZ w64 (s .args .processor) (s .fits .processor) i) (toZ-ofZ w64 (s .args .address) (s .fits .address) i))
     ∙ going-back-by (s .args .m) _ _ (sym (asked .ask-mapping .ensures .0) ∙ known .1) (s .args .processor) (s .args .address)

@@ -1,11 +1,10 @@
 -- `ownership` meets its contract.
 use mathlib.Core.Path.{sym, ap, subst, _∙_}
-use native.Mathlib.Omega.{arith}
 use borrow.Author.Needs.{needs}
 use mir.Syntax.{w64}
 use mir.ValLaws.{toZ-ofZ}
-use Rattle.numbers.proofs.Signed.{small-fits}
 use Rattle.mapping.specs.Answers.{Sound, refusalIn, noOwner, ownershipIn}
+use Rattle.mapping.proofs.Signs.{bound-read}
 use Rattle.mapping.proofs.CallLaws.{ownership-refused, ownership-by}
 use Rattle.mapping.proofs.ownership.Statement.{statement}
 use Rattle.mapping.proofs.ownership.Tie as tie
@@ -34,7 +33,7 @@ owned-in-requires : tie.Need-owned-in-requires
 owned-in-requires c κs =
     let known = c .before .asked .given in
     let sound = subst Sound (known .1) (c .before .before .before .ask-mapping .ensures .1) in
-    rw (toZ-ofZ w64 (known .0 .1 .0) (small-fits w64 (known .0 .1 .0) (omega (arith, sound .1)))) sound
+    rw (bound-read (known .0 .1 .0) (sound .1)) sound
 
 returns-2 : tie.Need-returns-2
 returns-2 c =
@@ -42,7 +41,7 @@ returns-2 c =
     let asked = c .before .before .before .before in
     let s = asked .before in
     let sound = subst Sound (known .1) (asked .ask-mapping .ensures .1) in
-    let lower = toZ-ofZ w64 (known .0 .1 .0) (small-fits w64 (known .0 .1 .0) (omega (arith, sound .1))) in
+    let lower = bound-read (known .0 .1 .0) (sound .1) in
     c .owned-in .ensures
     ∙ (λ i. ownershipIn (known .0 .0) (lower i) (toZ-ofZ w64 (s .args .index) (s .fits .index) i))
     ∙ ownership-by (s .args .m) _ _ (sym (asked .ask-mapping .ensures .0) ∙ known .1) (s .args .index)

@@ -1,12 +1,11 @@
 -- `ask_section` meets its contract: the fields of 64 bits are read back as the numbers they are.
 use mathlib.Core.Path.{_≡_, sym, _∙_, subst}
-use native.Mathlib.Omega.{arith}
 use borrow.Author.Needs.{needs}
 use mir.Syntax.{w64}
 use mir.ValLaws.{toZ-ofZ}
-use Rattle.numbers.proofs.Signed.{small-fits}
 use Rattle.model.specs.declared.Section.{Section}
 use Rattle.mapping.specs.Answers as mapping
+use Rattle.mapping.proofs.Signs.{bound-read}
 use Rattle.section.specs.declared.questions.Asked.{Asked}
 use Rattle.section.specs.Answers.{askedIn, askedOf, Sound}
 use Rattle.section.proofs.SectionAnswers.{sound, mapping-accepted, mapping-refused}
@@ -27,7 +26,7 @@ triplet-asked-requires c κs =
     let payload = c .before .before .before .before in
     let known = payload .l .given in
     let sound = subst mapping.Sound (known .1) (payload .before .before .ask-mapping .ensures .1) in
-    rw (toZ-ofZ w64 (known .0 .1 .0) (small-fits w64 (known .0 .1 .0) (omega (arith, sound .1)))) (sound .1)
+    rw (bound-read (known .0 .1 .0) (sound .1)) (sound .1)
 
 enum-known-q : tie.Need-enum-known-q
 enum-known-q c = search needs
@@ -40,7 +39,7 @@ returns c =
     let x = asked .before .before .before .args .x in
     let known = payload .l .given in
     let sound = subst mapping.Sound (known .1) (asked .ask-mapping .ensures .1) in
-    let lower = toZ-ofZ w64 (known .0 .1 .0) (small-fits w64 (known .0 .1 .0) (omega (arith, sound .1))) in
+    let lower = bound-read (known .0 .1 .0) (sound .1) in
     let l = toZ-ofZ w64 (x .triplet .lower) (record { sfits = told .0 .1 }) in
     let h = toZ-ofZ w64 (x .triplet .upper) (record { sfits = told .1 .0 .1 }) in
     let s = toZ-ofZ w64 (x .triplet .stride) (record { sfits = told .1 .1 .0 .1 }) in

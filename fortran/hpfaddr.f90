@@ -37,7 +37,7 @@
 ! In an assignment left(section) = right(section), of two sections with the same
 ! count, the element at each position goes from a sender, its owner on the right,
 ! to a receiver, its owner on the left. hpf_transfers lists the positions of one
-! sender and one receiver, with the addresses on both.
+! sender and one receiver, rising, with the addresses on both.
 !
 ! Every call returns, whatever numbers it is given; it keeps no state, and a fill
 ! or a transfer writes only the lists it is lent, so any number of threads may
@@ -123,11 +123,12 @@ module hpfaddr
 
   ! Writes the entries of a sender, 0 to right_processors - 1, and a receiver, 0
   ! to left_processors - 1: all section positions whose element the sender owns on
-  ! the right and the receiver owns on the left, each once, with the element's
-  ! address on the sender in `sent` and on the receiver in `received`. Their order
-  ! is left open in this edition. On plain numbers each list has as many elements
-  ! as the number after it says, on mappings all of its own; those after the entries
-  ! written stay.
+  ! the right and the receiver owns on the left, each once, in rising order,
+  ! whichever way the sections go, with the element's address on the sender in
+  ! `sent` and on the receiver in `received`. The order is fixed from this release
+  ! on: what is packed with one release is unpacked with another. On plain numbers
+  ! each list has as many elements as the number after it says, on mappings all of
+  ! its own; those after the entries written stay.
   interface hpf_transfers
     procedure plain_transfers, typed_transfers
   end interface hpf_transfers

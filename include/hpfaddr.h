@@ -54,14 +54,13 @@
  *
  * In an assignment left(section) = right(section), of two sections with the same
  * count, the element at each position goes from a sender, its owner on the
- * right, to a receiver, its owner on the left. The positions of one sender and
- * one receiver are the entries of their pair; each position is in one pair, once.
+ * right, to a receiver, its owner on the left. The positions of one sender and one
+ * receiver, rising, are the entries of their pair; each position is in one pair, once.
  *
  * What is guaranteed:
  * - Every call returns, whatever numbers it is given.
  * - Each field of each answer and each byte of a lent list afterwards, refusals
- *   too, is proved to equal its definition; of the entries of a pair, whose order
- *   is left open, that each stands in the lists once.
+ *   too, is proved to equal its definition.
  * - Ownership and going back undo each other.
  * - Fills one after another, from the first place on, give each element of the
  *   processor's list once and in order, whatever their quotas and lists, also
@@ -214,9 +213,11 @@ hpf_filled hpf_fill(int64_t cells, int64_t processors, int64_t block, int64_t st
 /*
  * Writes the entries of a sender, 0 to right_processors - 1, and a receiver, 0 to
  * left_processors - 1: all section positions whose element the sender owns on the
- * right and the receiver owns on the left, each once. Entry i is positions[i],
- * with the element's address on the sender in sent[i] and on the receiver in
- * received[i]. The order of the entries is left open in this edition.
+ * right and the receiver owns on the left, each once, in rising order, whichever way
+ * the sections go. Entry i is positions[i], with the element's address on the sender
+ * in sent[i] and on the receiver in received[i]. The order is fixed from this release
+ * on: what is packed with one release is unpacked with another.
+ *
  * Each list is an array of int32_t, aligned as such, with as many elements as the
  * number beside it says; no two of them may overlap. Elements after the entries
  * written stay. No other thread may use the lists meanwhile. A list may be NULL

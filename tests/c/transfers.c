@@ -59,13 +59,11 @@ static hpf_transferred transfers(side l, side r, int64_t sender, int64_t receive
     return plain;
 }
 
-/* The entries that the lists hold, by position: the order in the lists is open. */
+/* The entries that the lists hold, in the lists' order. */
 static void print_entries(int32_t entries)
 {
-    for (int32_t position = 0; position < COUNT; position++)
-        for (int32_t i = 0; i < entries; i++)
-            if (lists[0][i] == position)
-                printf(" %" PRId32 " (%" PRId32 " to %" PRId32 ")", position, lists[1][i], lists[2][i]);
+    for (int32_t i = 0; i < entries; i++)
+        printf(" %" PRId32 " (%" PRId32 " to %" PRId32 ")", lists[0][i], lists[1][i], lists[2][i]);
 }
 
 static void print_pairs(side l, side r)
@@ -95,6 +93,7 @@ static void print_call(const char *name, side l, side r, int64_t sender, int64_t
 int main(void)
 {
     print_pairs(by_seven, downwards);
+    print_pairs(downwards, by_seven);
     print_pairs(from_one, from_minus_three);
     print_call("exact lists", by_seven, downwards, 2, 0, 3, 3, 3);
     print_call("longer lists", by_seven, downwards, 2, 0, 9, 3, ROOM);

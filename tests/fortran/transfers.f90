@@ -32,6 +32,7 @@ program transfers
   integer(i32) :: lists(room, 3), others(room, 3)
 
   call print_pairs(by_seven, downwards)
+  call print_pairs(downwards, by_seven)
   call print_pairs(from_one, from_minus_three)
   call print_call('exact lists', by_seven, downwards, 2_i64, 0_i64, [3, 3, 3])
   call print_call('longer lists', by_seven, downwards, 2_i64, 0_i64, [9, 3, room])
@@ -91,15 +92,12 @@ contains
     end do
   end subroutine print_pairs
 
-  ! The entries that the lists hold, by position: the order in the lists is open.
+  ! The entries that the lists hold, in the lists' order.
   subroutine print_entries(entries)
     integer(i32), intent(in) :: entries
-    integer :: position, i
-    do position = 0, elements - 1
-      do i = 1, entries
-        if (lists(i, 1) /= position) cycle
-        write (*, '(3(a, i0), a)', advance='no') ' ', position, ' (', lists(i, 2), ' to ', lists(i, 3), ')'
-      end do
+    integer :: i
+    do i = 1, entries
+      write (*, '(3(a, i0), a)', advance='no') ' ', lists(i, 1), ' (', lists(i, 2), ' to ', lists(i, 3), ')'
     end do
   end subroutine print_entries
 

@@ -127,7 +127,7 @@ fn compare_transfers(
         let mut lists = [[-1; MOST_POSITIONS as usize]; 3];
         let answer =
             transfer_library::transfers(&transfer, lists.each_mut().map(|list| &mut list[..]));
-        (answer, sorted(&lists))
+        (answer, lists)
     });
     comparison.same(answer, expected, || {
         format!("{transfer:?}, and {zero_based:?}")
@@ -139,12 +139,4 @@ fn ending_with_last(side: &Side) -> Side {
     let upper = lower + (upper - lower) / step * step;
     let triplet = Triplet { lower, upper, step };
     Side { triplet, ..*side }
-}
-
-/// The entries by position, whose order in the lists is open.
-fn sorted(lists: &[[i32; MOST_POSITIONS as usize]; 3]) -> Vec<[i32; 3]> {
-    let entry = |place: usize| lists.each_ref().map(|list| list[place]);
-    let mut entries: Vec<_> = (0..MOST_POSITIONS as usize).map(entry).collect();
-    entries.sort_unstable();
-    entries
 }

@@ -6,16 +6,15 @@ use crate::guarded_list::GuardedList;
 use crate::transfer_enumeration::Entry;
 use crate::transfer_library::{self, Transfer, Transferred};
 
-/// What a transfer is to answer, and the entries it is to write, by position.
+/// What a transfer is to answer, and the entries it is to write, in order.
 pub struct Transferring {
     pub answer: Transferred,
     pub entries: Vec<Entry>,
 }
 
 impl Comparison {
-    /// Compares the answer, the entries, whose order is open, and every number
-    /// in the lists after them and around the lists. Gives the entries as they
-    /// were found.
+    /// Compares the answer, the entries in order, and every number in the lists
+    /// after them and around the lists. Gives the entries as they were found.
     pub fn transfers(
         &mut self,
         transfer: &Transfer,
@@ -29,10 +28,9 @@ impl Comparison {
             format!("{transfer:?} with lists of {rooms:?}")
         })?;
         let written = expected.entries.len();
-        let mut entries: Vec<Entry> = (0..written)
+        let entries: Vec<Entry> = (0..written)
             .map(|place| lists.each_ref().map(|list| list.at(place)))
             .collect();
-        entries.sort_unstable();
         self.same(&entries, &expected.entries, || {
             format!("entries of {transfer:?} with lists of {rooms:?}")
         })?;

@@ -49,7 +49,7 @@ impl Half {
     }
 }
 
-/// All positions that the sender owns on the right and the receiver on the left.
+/// All positions that the sender owns on the right and the receiver on the left, rising.
 pub fn pair(left: &Half, right: &Half, sender: u64, receiver: u64) -> Vec<Entry> {
     (0..left.count())
         .filter(|&position| right.owner(position) == sender && left.owner(position) == receiver)

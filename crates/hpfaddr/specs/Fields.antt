@@ -6,7 +6,7 @@ use lib.IntN.{ℤ}
 use Rattle.model.specs.declared.Section.{Section}
 use Rattle.model.specs.Calls.{OwnershipAnswer, GoingBackAnswer, LocalCountAnswer, SectionStepsAnswer, PlaceAnswer, fill}
 use Rattle.model.specs.ByteFills.{ByteFill, inWords, bytesAfter}
-use Rattle.model.specs.Transfers.{Lists, TransferCall, TransferAnswer, transfers, ListsAfter}
+use Rattle.model.specs.Transfers.{Lists, TransferCall, TransferAnswer, transfers, listsAfter}
 use Rattle.mapping.specs.Answers.{mappingOf}
 use Rattle.section.specs.Strides.{tripletOf}
 use Rattle.fill.specs.Answers.{FillReport, reportOf}
@@ -55,6 +55,6 @@ FilledFields x q t z bs bs′ r =
 abbrev pub transferredFields : HpfTransferred → TransferAnswer
 transferredFields r = record { refusal = r .refusal; entries = r .entries; needed = r .needed }
 
--- a transfer returns what the definition says, and leaves lists that it allows: the order of their entries is open
+-- a transfer returns what the definition says, and leaves the lists that it says
 abbrev pub TransferredFields : TransferCall → Lists → HpfTransferred → Type 0
-TransferredFields c after r = (transferredFields r ≡ transfers c) × ListsAfter c after
+TransferredFields c after r = (transferredFields r ≡ transfers c) × (after ≡ listsAfter c)

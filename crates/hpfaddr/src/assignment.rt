@@ -36,8 +36,8 @@ fn fields_of(t: Transferred) -> HpfTransferred
     }
 }
 
-// The entries of a sender and a receiver: section positions, sender's addresses and
-// receiver's addresses in three lists. The order of the entries is left open.
+// The entries of a sender and a receiver in rising section position: positions, sender's
+// addresses and receiver's addresses in three lists.
 #[no_mangle]
 pub extern "C" fn hpf_transfers(
     left_cells: i64,

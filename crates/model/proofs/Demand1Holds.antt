@@ -1,20 +1,20 @@
 -- Demand 1 holds of every call. Assumes nothing.
 use Prim.Native.Nat.{ℕ}
-use mathlib.Core.Path.{_≡_, refl}
+use mathlib.Core.Path.{_≡_, refl, sym, _∙_}
 use mathlib.Core.Bool.{Bool, true, false}
 use mathlib.Core.List.{List, [], _∷_, _++_}
-use lib.ListN.{take}
+use lib.ListN.{take, length-map}
 use borrow.Author.Tests.{eq-eqb, ne-eqb}
 use native.Mathlib.Omega.{arith}
 use Rattle.model.specs.declared.Steps.{Steps}
 use Rattle.model.specs.declared.Steps.the-variants.{NoStep, OneStep, TwoSteps}
-use Rattle.model.specs.Sections.{count}
+use Rattle.model.specs.Sections.{count, address}
 use Rattle.model.specs.Steps.{stepsOf}
 use Rattle.model.specs.Questions.{ask, firstNo, ofMapping, ofSection, ofProcessor, ofIndex, ofAddress}
 use Rattle.model.specs.Calls.{ownership, goingBack, localCount, stepsReport, sectionSteps, firstPlaceAt}
 use Rattle.model.specs.Calls.{ofFill, fill}
 use Rattle.model.specs.ByteFills.{ByteFill, inWords, storeEntries, bytesAfter}
-use Rattle.model.specs.Transfers.{Lists, TransferCall, ofTransfer, entriesOf, transfers, ListsAfter}
+use Rattle.model.specs.Transfers.{TransferCall, placesOf, withEntries, ofTransfer, entriesOf, transfers, listsAfter}
 use Rattle.model.specs.Sheets.{Sheet, IsPrint, Place, noSheet, Reads, formed, malformed}
 use Rattle.model.specs.Demand1.{Answers, Demand1, ByTheRule, NotFilled, Listed, NotListed, Decides}
 use Rattle.model.proofs.AnsweredLaws.{either-of}
@@ -50,15 +50,28 @@ transfer-numbers c =
     let e : ℕ = firstNo (ofTransfer c) in
     either-of _ _ _ (ofTransfer c) refl _ _ refl refl (refl, refl) (refl, (λ z. rw (eq-eqb e 13 z)), (λ f. rw (ne-eqb e 13 f)))
 
-transfer-answers : (c : TransferCall) (after : Lists) → ListsAfter c after
-    → Answers (transfers c) (λ a. a .refusal) (ofTransfer c) (λ a. Listed c a after) (λ a. NotListed c a after)
-transfer-answers c after l =
+-- and its lists, as its refusal says
+lists-accepted : (c : TransferCall) → transfers c .refusal ≡ 0
+    → listsAfter c ≡ withEntries (placesOf c) (address (c .right)) (address (c .left)) (c .lists)
+unfolding listsAfter
+lists-accepted c e = rw (eq-eqb (firstNo (ofTransfer c)) 0 (sym (transfer-numbers c .first) ∙ e))
+
+lists-refused : (c : TransferCall) → (transfers c .refusal ≡ 0 → ⊥) → listsAfter c ≡ c .lists
+unfolding listsAfter
+lists-refused c f = rw (ne-eqb (firstNo (ofTransfer c)) 0 (λ z. f (transfer-numbers c .first ∙ z)))
+
+transfer-answers : (c : TransferCall) → Answers (transfers c) (λ a. a .refusal) (ofTransfer c) (Listed c) (NotListed c)
+unfolding entriesOf
+transfer-answers c =
     let a = transfer-numbers c in
     record {
       first = a .first;
       every = a .every;
-      accepted = λ e. let v = a .accepted e in (v .0, v .1, rw (v .0) at (l .accepted e));
-      refused = λ f. let v = a .refused f in (v .0, v .1, v .2, l .refused f);
+      accepted = λ e.
+          let v = a .accepted e in
+          let l = lists-accepted c e in
+          (v .0, v .1, rw (l, v .0), rw (l, v .0, length-map), rw (l, v .0, length-map));
+      refused = λ f. let v = a .refused f in (v .0, v .1, v .2, lists-refused c f);
     }
 
 sheet-answers : (s : List ℕ) (e n : ℕ) (w : Sheet) → Reads s e n w → (b : Bool) → Decides s b

@@ -11,15 +11,15 @@ use Rattle.numbers.specs.Search.{passing}
 use Rattle.model.specs.declared.Mapping.{Mapping}
 use Rattle.model.specs.declared.Section.{Section}
 use Rattle.model.specs.Ownership.{nat, cellUnder, lastIndex, fromLower, declaredIndex, layoutOf, ownerOf, rank, held, backTo}
-use Rattle.model.specs.Sections.{elementAt, layout, count, index}
+use Rattle.model.specs.Sections.{elementAt, layout, count, index, address}
 use Rattle.model.specs.Filling.{answer}
 use Rattle.model.specs.Questions.{Question, ask, firstNo, between, isBelow, most, least, boundsFit, cellsFit, ofMapping, isIndex, inRange, endsFit}
 use Rattle.model.specs.Questions.{ofSection, ofProcessor, ofIndex, ofAddress, ofQuota}
 use Rattle.model.specs.Calls.{ownership, goingBack, localCount, stepsReport, noReport, sectionSteps, firstPlaceAt, FillCall, ofFill, requestOf, fill}
-use Rattle.model.specs.Transfers.{TransferCall, isEntry, pairPlaces, ofCounts, ofRoom, entriesOf, ofTransfer, transfers}
+use Rattle.model.specs.Transfers.{TransferCall, isEntry, pairPlaces, placesOf, ofCounts, ofRoom, entriesOf, ofTransfer, transfers, withEntries, listsAfter}
 use Rattle.model.specs.Document01.{plainLayout, plainLined, plainCells, plainMapping, plainEnds, plainSection, plainPlace}
 use Rattle.model.specs.Document01.{plainOwnership, plainGoingBack, plainLocalCount, plainSteps, plainFirstPlace, plainFill}
-use Rattle.model.specs.Document01.{plainPairs, plainTransfers, Plain, AsDocument01}
+use Rattle.model.specs.Document01.{addressIn, plainPairs, plainPlaces, plainTransfer, plainTransfers, plainListsAfter, Plain, AsDocument01}
 use Rattle.model.proofs.BoundLaws.{index-from}
 use Rattle.model.proofs.QuestionLaws.{between-is}
 use Rattle.model.proofs.ZeroBounds.{less-zero, zero-bounds}
@@ -147,6 +147,9 @@ module _ (x : Section) (p : Plain (x .mapping)) where
     stride = x .triplet .stride;
   }
 
+  address-plain : (t : ℕ) → address x t ≡ addressIn (plainLined x) t
+  address-plain = address-lined x lined-plain
+
   ends-plain : endsFit x ≡ plainEnds x
   unfolding endsFit
   ends-plain =
@@ -184,25 +187,34 @@ fill-plain c p =
 
 -- ---- transfers
 
-pub pairs-plain : (left right : Section) → Plain (left .mapping) → Plain (right .mapping) → (q m : ℕ)
+pairs-plain : (left right : Section) → Plain (left .mapping) → Plain (right .mapping) → (q m : ℕ)
     → pairPlaces left right q m ≡ plainPairs left right q m
 unfolding pairPlaces isEntry
 pairs-plain left right l r q m = λ i.
     passing (λ t. owns-lined right (lined-plain right r) q t i && owns-lined left (lined-plain left l) m t i) 0 (count left)
 
-pub transfers-plain : (c : TransferCall) → Plain (c .left .mapping) → Plain (c .right .mapping) → transfers c ≡ plainTransfers c
-unfolding transfers entriesOf
-transfers-plain c l r =
-    let n = ap length (pairs-plain (c .left) (c .right) l r (nat (c .sender)) (nat (c .receiver))) in
-    let tail : ℕ → List Question = λ k.
-    ofProcessor (c .right .mapping) (c .sender) ++ ofProcessor (c .left .mapping) (c .receiver)
-    ++ ofCounts (count (c .left)) (count (c .right)) ++ ofRoom k (c .lists) in
-    let e : firstNo (ofTransfer c) ≡ firstNo (plainSection (c .left) ++ plainSection (c .right) ++ tail (length (plainPairs (c .left) (c .right) (nat (c .sender)) (nat (c .receiver))))) =
-    section-plain (c .left) l (ofSection (c .right) ++ tail (entriesOf c))
-    ∙ same-after (plainSection (c .left)) _ _ (section-plain (c .right) r (tail (entriesOf c)))
-    ∙ (λ i. firstNo (plainSection (c .left) ++ plainSection (c .right) ++ tail (n i))) in
-    λ i. cond (eqb (e i) 0) (record { refusal = 0; entries = n i; needed = 0 })
-    (record { refusal = e i; entries = 0; needed = cond (eqb (e i) 13) (n i) 0 })
+module _ (c : TransferCall) (l : Plain (c .left .mapping)) (r : Plain (c .right .mapping)) where
+  places-same : placesOf c ≡ plainPlaces c
+  places-same = pairs-plain (c .left) (c .right) l r (nat (c .sender)) (nat (c .receiver))
+
+  asked-transfer : firstNo (ofTransfer c) ≡ firstNo (plainTransfer c (length (plainPlaces c)))
+  unfolding entriesOf
+  asked-transfer =
+      let tail : List Question =
+      ofProcessor (c .right .mapping) (c .sender) ++ ofProcessor (c .left .mapping) (c .receiver)
+      ++ ofCounts (count (c .left)) (count (c .right)) ++ ofRoom (entriesOf c) (c .lists) in
+      section-plain (c .left) l (ofSection (c .right) ++ tail)
+      ∙ same-after (plainSection (c .left)) _ _ (section-plain (c .right) r tail)
+      ∙ (λ i. firstNo (plainTransfer c (length (places-same i))))
+
+  pub transfers-plain : (transfers c ≡ plainTransfers c) × (listsAfter c ≡ plainListsAfter c)
+  unfolding transfers entriesOf listsAfter
+  transfers-plain = (
+    λ i. cond (eqb (asked-transfer i) 0) (record { refusal = 0; entries = length (places-same i); needed = 0 })
+        (record { refusal = asked-transfer i; entries = 0; needed = cond (eqb (asked-transfer i) 13) (length (places-same i)) 0 }),
+    λ i. cond (eqb (asked-transfer i) 0)
+        (withEntries (places-same i) (λ t. address-plain (c .right) r t i) (λ t. address-plain (c .left) l t i) (c .lists)) (c .lists),
+  )
 
 pub as-document-01 : AsDocument01
 as-document-01 = record {
@@ -213,6 +225,4 @@ as-document-01 = record {
   of-first-place = first-place-plain;
   of-fill = fill-plain;
   of-transfers = transfers-plain;
-  of-pairs = pairs-plain;
-  of-addresses = λ x p t. address-lined x (lined-plain x p) t;
 }

@@ -22,7 +22,7 @@ use Rattle.model.proofs.AddressLaws.{owns-of, of-owns, back-rank}
 use Rattle.model.proofs.InTurnLaws.{leads-drop, leads-done}
 use Rattle.model.proofs.SectionFills.{places-lead, Same, section-fills}
 
-pub getD-map : (g : ℕ → ℕ) (l : List ℕ) (j : ℕ) → j < length l → getD (map g l) j 0 ≡ g (getD l j 0)
+getD-map : (g : ℕ → ℕ) (l : List ℕ) (j : ℕ) → j < length l → getD (map g l) j 0 ≡ g (getD l j 0)
 getD-map g [] j h = absurd (not-suc-le-zero h)
 getD-map g (x ∷ l) zero h = refl
 getD-map g (x ∷ l) (suc j) h = getD-map g l j (le-of-suc-le-suc h)

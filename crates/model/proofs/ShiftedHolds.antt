@@ -10,7 +10,7 @@ use lib.Signed.{quotZ}
 use Rattle.model.specs.declared.Mapping.{Mapping}
 use Rattle.model.specs.declared.Section.{Section}
 use Rattle.model.specs.Ownership.{nat, fromLower, declaredIndex, layoutOf, ownerOf, rank, held, backTo}
-use Rattle.model.specs.Sections.{countOf, elementAt, layout, count, index, ownsAt}
+use Rattle.model.specs.Sections.{countOf, elementAt, layout, count, index, address, ownsAt}
 use Rattle.model.specs.Steps.{stepsOf}
 use Rattle.numbers.specs.Search.{passing}
 use Rattle.numbers.specs.Words.{wordsOf}
@@ -20,7 +20,7 @@ use Rattle.model.specs.Questions.{ofPlace, ofQuota}
 use Rattle.model.specs.Calls.{ownership, GoingBackAnswer, goingBack, localCount, stepsReport, noReport, sectionSteps, firstPlaceAt}
 use Rattle.model.specs.Calls.{FillCall, ofFill, requestOf, fill}
 use Rattle.model.specs.ByteFills.{ByteFill, inWords, storeEntries, bytesAfter, outcomeOf}
-use Rattle.model.specs.Transfers.{TransferCall, isEntry, pairPlaces, ofCounts, ofRoom, entriesOf, ofTransfer, transfers}
+use Rattle.model.specs.Transfers.{TransferCall, isEntry, pairPlaces, placesOf, ofCounts, ofRoom, entriesOf, ofTransfer, transfers, withEntries, listsAfter}
 use Rattle.model.specs.Shifted.{fromZero, sectionFromZero, fillFromZero, byteFillFromZero, transferFromZero, shiftedBy, BothPass, BothIn}
 use Rattle.model.specs.Shifted.{Shifted}
 use Rattle.model.proofs.BoundLaws.{swapped, exchanged, index-from}
@@ -141,6 +141,9 @@ module _ (x : Section) where
   pub owns-alike : (q t : ℕ) → ownsAt x q t ≡ ownsAt y q t
   owns-alike q t = owns-lined x lined q t ∙ sym (owns-lined y refl q t)
 
+  pub address-alike : (t : ℕ) → address x t ≡ address y t
+  address-alike t = address-lined x lined t ∙ sym (address-lined y refl t)
+
   steps-alike : stepsOf x ≡ stepsOf y
   steps-alike = steps-lined x lined ∙ sym (steps-lined y refl)
 
@@ -206,29 +209,44 @@ byte-fill-alike c both =
       after,
     )
 
-pub pairs-alike : (left right : Section) (q m : ℕ)
+pairs-alike : (left right : Section) (q m : ℕ)
     → pairPlaces left right q m ≡ pairPlaces (sectionFromZero left) (sectionFromZero right) q m
 unfolding pairPlaces isEntry
 pairs-alike left right q m = λ i.
     passing (λ t. owns-alike right q t i && owns-alike left m t i) 0 (count-alike left i)
 
-pub transfers-alike : (c : TransferCall) → BothIn (c .left) → BothIn (c .right) → transfers c ≡ transfers (transferFromZero c)
-unfolding transfers entriesOf firstNo
-transfers-alike c l r =
-    let d = transferFromZero c in
-    let n : entriesOf c ≡ entriesOf d = ap length (pairs-alike (c .left) (c .right) (nat (c .sender)) (nat (c .receiver))) in
-    let tail : TransferCall → List Question = λ k.
-    ofProcessor (k .right .mapping) (k .sender) ++ ofProcessor (k .left .mapping) (k .receiver)
-    ++ ofCounts (count (k .left)) (count (k .right)) ++ ofRoom (entriesOf k) (k .lists) in
-    let tails : firstNo (tail c) ≡ firstNo (tail d) = λ i.
-    cond (isBelow (c .right .mapping .processors) (c .sender))
-    (cond (isBelow (c .left .mapping .processors) (c .receiver))
-    (cond (eqb (count-alike (c .left) i) (count-alike (c .right) i)) (firstNo (ofRoom (n i) (c .lists))) 12) 8) 8 in
-    let e : firstNo (ofTransfer c) ≡ firstNo (ofTransfer d) =
-    asked-alike (c .left) l (ofSection (c .right) ++ tail c) (ofSection (d .right) ++ tail d)
-    (asked-alike (c .right) r (tail c) (tail d) tails) in
-    λ i. cond (eqb (e i) 0) (record { refusal = 0; entries = n i; needed = 0 })
-    (record { refusal = e i; entries = 0; needed = cond (eqb (e i) 13) (n i) 0 })
+module _ (c : TransferCall) (l : BothIn (c .left)) (r : BothIn (c .right)) where
+  abbrev d : TransferCall
+  d = transferFromZero c
+
+  places-alike : placesOf c ≡ placesOf d
+  places-alike = pairs-alike (c .left) (c .right) (nat (c .sender)) (nat (c .receiver))
+
+  entries-alike : entriesOf c ≡ entriesOf d
+  unfolding entriesOf
+  entries-alike = ap length places-alike
+
+  asked-transfer : firstNo (ofTransfer c) ≡ firstNo (ofTransfer d)
+  unfolding firstNo
+  asked-transfer =
+      let tail : TransferCall → List Question = λ k.
+      ofProcessor (k .right .mapping) (k .sender) ++ ofProcessor (k .left .mapping) (k .receiver)
+      ++ ofCounts (count (k .left)) (count (k .right)) ++ ofRoom (entriesOf k) (k .lists) in
+      let tails : firstNo (tail c) ≡ firstNo (tail d) = λ i.
+      cond (isBelow (c .right .mapping .processors) (c .sender))
+      (cond (isBelow (c .left .mapping .processors) (c .receiver))
+      (cond (eqb (count-alike (c .left) i) (count-alike (c .right) i)) (firstNo (ofRoom (entries-alike i) (c .lists))) 12) 8) 8 in
+      asked-alike (c .left) l (ofSection (c .right) ++ tail c) (ofSection (d .right) ++ tail d)
+      (asked-alike (c .right) r (tail c) (tail d) tails)
+
+  pub transfers-alike : (transfers c ≡ transfers d) × (listsAfter c ≡ listsAfter d)
+  unfolding transfers listsAfter
+  transfers-alike = (
+    λ i. cond (eqb (asked-transfer i) 0) (record { refusal = 0; entries = entries-alike i; needed = 0 })
+        (record { refusal = asked-transfer i; entries = 0; needed = cond (eqb (asked-transfer i) 13) (entries-alike i) 0 }),
+    λ i. cond (eqb (asked-transfer i) 0)
+        (withEntries (places-alike i) (λ t. address-alike (c .right) t i) (λ t. address-alike (c .left) t i) (c .lists)) (c .lists),
+  )
 
 pub shifted : Shifted
 shifted = record {
@@ -241,6 +259,4 @@ shifted = record {
   of-fill = fill-alike;
   of-byte-fill = byte-fill-alike;
   of-transfers = transfers-alike;
-  of-pairs = λ left right l r. pairs-alike left right;
-  of-addresses = λ x b t. address-lined x (lined x) t ∙ sym (address-lined (sectionFromZero x) refl t);
 }

@@ -23,8 +23,9 @@ use Rattle.model.specs.Steps.{
 use Rattle.model.specs.Filling.{fillBy, answer, got, paid, standing}
 use Rattle.model.specs.Questions.{firstNo, between, boundsFit, cellsFit, isIndex, inRange, endsFit, isPlace}
 use Rattle.model.specs.Calls.{ownership, goingBack, walkOf, requestOf, fill, sectionSteps}
+use Rattle.model.specs.Transfers.{isEntry, pairPlaces, entriesOf, listsAfter}
 use Rattle.model.specs.Starred.{every, table}
 
 pub starred : T (every table)
-unfolding table tally passing headOr sum gcdIn gcd owns rank elementsOf held backTo nat cellUnder lastIndex lastCell fromLower declaredIndex layoutOf cellOf cellOwner courseCells columnOf ownerOf countOf elementAt layout count index cell address ownsAt places firstPlace processorIndex returnIndex processorStep returnStep oneStep stepsBy spread stepsOf upward going cost nextBy nextPlace fillBy answer got paid standing firstNo between boundsFit cellsFit isIndex inRange endsFit isPlace ownership goingBack walkOf requestOf fill sectionSteps
+unfolding table tally passing headOr sum gcdIn gcd owns rank elementsOf held backTo nat cellUnder lastIndex lastCell fromLower declaredIndex layoutOf cellOf cellOwner courseCells columnOf ownerOf countOf elementAt layout count index cell address ownsAt places firstPlace processorIndex returnIndex processorStep returnStep oneStep stepsBy spread stepsOf upward going cost nextBy nextPlace fillBy answer got paid standing firstNo between boundsFit cellsFit isIndex inRange endsFit isPlace ownership goingBack walkOf requestOf fill sectionSteps isEntry pairPlaces entriesOf listsAfter
 starred = tt

@@ -1,15 +1,15 @@
 -- Transfers: over all senders and receivers each position of the section stands in exactly one pair, once, so that the pairs'
--- entries add up to the count. Assumes nothing.
+-- entries add up to the count; a pair's are in rising order. Assumes nothing.
 use Prim.Native.Nat.{ℕ, zero, suc, _+_, _<_, zero-le}
 use mathlib.Core.Path.{_≡_, refl, sym, ap, _∙_}
 use mathlib.Core.Bool.{Bool, true, false, cond}
 use native.Mathlib.Nat.{zero-add, eq-or-lt-of-le, le-of-suc-le-suc, not-suc-le-zero}
 use mathlib.Core.Logic.{_⊎_, inl, inr}
 use native.Mathlib.Omega.{arith}
-use lib.ListN.{length}
+use lib.ListN.{length, getD}
 use Rattle.numbers.specs.Search.{passing, tally}
 use Rattle.numbers.proofs.Tests.{both-true}
-use Rattle.numbers.proofs.SearchLaws.{tally-none, tally-next, listed, found, passing-length}
+use Rattle.numbers.proofs.SearchLaws.{tally-none, tally-next, listed, found, passing-rises, passing-length}
 use Rattle.model.specs.declared.Section.{Section}
 use Rattle.model.specs.Ownership.{ownerOf}
 use Rattle.model.specs.Sections.{layout, count, index, ownsAt}
@@ -51,6 +51,11 @@ sum-one (suc n) a f h z = go (eq-or-lt-of-le (le-of-suc-le-suc h)) (λ l. sum-on
     go (inr l) ih = omega (arith, ih l, z n (λ p. omega arith))
 
 -- ---- a position in its pair
+
+rising : (left right : Section) (q m i j : ℕ) → i < j → j < length (pairPlaces left right q m)
+    → getD (pairPlaces left right q m) i 0 < getD (pairPlaces left right q m) j 0
+unfolding pairPlaces
+rising left right q m = passing-rises (isEntry left right q m) (count left) 0
 
 module _ (left right : Section) (l-ok : firstNo (ofSection left) ≡ 0) (r-ok : firstNo (ofSection right) ≡ 0) where
   -- the owners of the elements at position t
@@ -168,4 +173,5 @@ module _ (left right : Section) (l-ok : firstNo (ofSection left) ≡ 0) (r-ok : 
         over-same (λ q m. length (pairPlaces left right q m)) (λ q m. tally (isEntry left right q m) (count left))
         (λ q m. passing-count (isEntry left right q m) (count left))
         ∙ all-below (count left);
+    rising = rising left right;
   }

@@ -4,20 +4,20 @@
 use Prim.Native.Nat.{ℕ}
 use mathlib.Core.Path.{_≡_}
 use mathlib.Core.Bool.{Bool, true, false}
-use mathlib.Core.List.{List, [], _∷_, _++_}
+use mathlib.Core.List.{List, [], _∷_, _++_, map}
 use lib.IntN.{ℤ, pos}
-use lib.ListN.{take}
+use lib.ListN.{length, take, drop}
 use Rattle.model.specs.declared.Mapping.{Mapping}
 use Rattle.model.specs.declared.Section.{Section}
 use Rattle.model.specs.Ownership.{nat, fromLower, declaredIndex, layoutOf, ownerOf, rank, held, backTo}
-use Rattle.model.specs.Sections.{count, firstPlace}
+use Rattle.model.specs.Sections.{count, address, firstPlace}
 use Rattle.model.specs.Steps.{stepsOf}
 use Rattle.model.specs.Filling.{Filled, fillBy}
 use Rattle.model.specs.Questions.{Question, ask, firstNo, AllYes, ofMapping, ofSection, ofProcessor, ofIndex, ofAddress}
 use Rattle.model.specs.Calls.{ownership, goingBack, localCount, SectionStepsAnswer, stepsReport, sectionSteps, firstPlaceAt}
 use Rattle.model.specs.Calls.{FillCall, ofFill, walkOf, fill}
 use Rattle.model.specs.ByteFills.{ByteFill, inWords, storeEntries, bytesAfter, outcomeOf}
-use Rattle.model.specs.Transfers.{Lists, TransferCall, TransferAnswer, ofTransfer, entriesOf, transfers, PairListed, ListsAfter}
+use Rattle.model.specs.Transfers.{TransferCall, TransferAnswer, placesOf, ofTransfer, entriesOf, transfers, listsAfter}
 use Rattle.model.specs.Sheets.{Sheet, IsPrint, Place, noSheet, Reads}
 
 -- ---- any call
@@ -50,17 +50,20 @@ ByTheRule c f = f ≡ fillBy (walkOf (c .section)) (nat (c .place)) (nat (c .quo
 abbrev pub NotFilled : FillCall → Filled → Type 0
 NotFilled c f = Zeros (f .entries ∷ f .tries ∷ f .place ∷ []) × (f .list ≡ c .list)
 
--- the entries of the pair, in the lists
-abbrev pub Listed : TransferCall → TransferAnswer → Lists → Type 0
-Listed c a after =
-    (a .entries ≡ entriesOf c) × (a .needed ≡ 0)
-    × PairListed (c .left) (c .right) (nat (c .sender)) (nat (c .receiver)) (entriesOf c) (c .lists) after
+-- the pair's positions followed by what stood after them, and their addresses on both sides followed by what stood there
+abbrev pub Listed : TransferCall → TransferAnswer → Type 0
+Listed c a =
+    let ts : List ℕ = placesOf c in
+    (a .entries ≡ length ts) × (a .needed ≡ 0)
+    × (listsAfter c .positions ≡ ts ++ drop (a .entries) (c .lists .positions))
+    × (listsAfter c .sent ≡ map (address (c .right)) ts ++ drop (a .entries) (c .lists .sent))
+    × (listsAfter c .received ≡ map (address (c .left)) ts ++ drop (a .entries) (c .lists .received))
 
 -- "13 adds the entries needed"
-abbrev pub NotListed : TransferCall → TransferAnswer → Lists → Type 0
-NotListed c a after =
+abbrev pub NotListed : TransferCall → TransferAnswer → Type 0
+NotListed c a =
     (a .entries ≡ 0) × (a .refusal ≡ 13 → a .needed ≡ entriesOf c) × ((a .refusal ≡ 13 → ⊥) → a .needed ≡ 0)
-    × (after ≡ c .lists)
+    × (listsAfter c ≡ c .lists)
 
 -- the answer to question 14: is s the print of a well-formed sheet?
 pub record Decides (s : List ℕ) (b : Bool) : Type 0 where
@@ -94,9 +97,7 @@ pub record Demand1 : Type 0 where
       → Answers (outcomeOf c) (λ a. a .refusal) (ofFill (inWords c))
       (λ a. ByTheRule (inWords c) (a .filled) × (bytesAfter c ≡ storeEntries (c .bytes) 0 (take (a .filled .entries) (a .filled .list))))
       (λ a. NotFilled (inWords c) (a .filled) × (bytesAfter c ≡ c .bytes))
-  -- whatever lists the contract allows: the order of a pair's entries is open
-  pub of-transfers : (c : TransferCall) (after : Lists) → ListsAfter c after
-      → Answers (transfers c) (λ a. a .refusal) (ofTransfer c) (λ a. Listed c a after) (λ a. NotListed c a after)
+  pub of-transfers : (c : TransferCall) → Answers (transfers c) (λ a. a .refusal) (ofTransfer c) (Listed c) (NotListed c)
   -- 14 is the one question of a sheet, and its refusal has a place
   pub of-sheet : (s : List ℕ) (e n : ℕ) (w : Sheet) → Reads s e n w → (b : Bool) → Decides s b
       → Answers e (λ a. a) (ask 14 b ∷ []) (λ a. IsPrint w s × (n ≡ 0)) (λ a. Place IsPrint s n × (w ≡ noSheet))

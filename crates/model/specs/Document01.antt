@@ -15,13 +15,13 @@ use Rattle.model.specs.declared.Section.{Section}
 use Rattle.model.specs.declared.Steps.{Steps}
 use Rattle.model.specs.declared.Steps.the-variants.{NoStep, OneStep, TwoSteps}
 use Rattle.model.specs.Ownership.{nat, cellOf, courseCells, columnOf, ownerOf, owns, rank, held, backTo}
-use Rattle.model.specs.Sections.{elementAt, count, address}
+use Rattle.model.specs.Sections.{elementAt, count}
 use Rattle.model.specs.Steps.{Going, stepsBy, goOn, isPast}
 use Rattle.model.specs.Filling.{Walk, Outcome, answer}
 use Rattle.model.specs.Questions.{Question, ask, firstNo, between, isBelow, most, inRange, ofProcessor, ofQuota}
 use Rattle.model.specs.Calls.{OwnershipAnswer, ownership, GoingBackAnswer, goingBack, LocalCountAnswer, localCount}
 use Rattle.model.specs.Calls.{stepsReport, noReport, SectionStepsAnswer, sectionSteps, PlaceAnswer, firstPlaceAt, FillCall, fill}
-use Rattle.model.specs.Transfers.{TransferCall, TransferAnswer, ofCounts, ofRoom, transfers, pairPlaces}
+use Rattle.model.specs.Transfers.{Lists, TransferCall, TransferAnswer, ofCounts, ofRoom, transfers, withEntries, listsAfter}
 
 -- ---- a section, by its layout, the index from 0 at each position, the count and s
 
@@ -162,18 +162,32 @@ plainFill c =
     answer (walkIn (plainLined x))
     (record { refusal = firstNo asked; place = nat (c .place); quota = nat (c .quota); list = c .list })
 
--- the positions of a pair, and how many there are
+-- the positions of a pair
 abbrev pub plainPairs : Section → Section → ℕ → ℕ → List ℕ
 plainPairs left right q m = passing (λ t. ownsIn (plainLined right) q t && ownsIn (plainLined left) m t) 0 (count left)
 
+abbrev pub plainPlaces : TransferCall → List ℕ
+plainPlaces c = plainPairs (c .left) (c .right) (nat (c .sender)) (nat (c .receiver))
+
+-- the questions of a pair of n entries
+abbrev pub plainTransfer : TransferCall → ℕ → List Question
+plainTransfer c n =
+    plainSection (c .left) ++ plainSection (c .right) ++ ofProcessor (c .right .mapping) (c .sender)
+    ++ ofProcessor (c .left .mapping) (c .receiver) ++ ofCounts (count (c .left)) (count (c .right)) ++ ofRoom n (c .lists)
+
 abbrev pub plainTransfers : TransferCall → TransferAnswer
 plainTransfers c =
-    let n : ℕ = length (plainPairs (c .left) (c .right) (nat (c .sender)) (nat (c .receiver))) in
-    let e : ℕ = firstNo
-    (plainSection (c .left) ++ plainSection (c .right) ++ ofProcessor (c .right .mapping) (c .sender)
-    ++ ofProcessor (c .left .mapping) (c .receiver) ++ ofCounts (count (c .left)) (count (c .right)) ++ ofRoom n (c .lists)) in
+    let n : ℕ = length (plainPlaces c) in
+    let e : ℕ = firstNo (plainTransfer c n) in
     cond (eqb e 0) (record { refusal = 0; entries = n; needed = 0 })
     (record { refusal = e; entries = 0; needed = cond (eqb e 13) n 0 })
+
+-- document 01 leaves the order of the entries open, and document 02, A2, has them in rising position
+abbrev pub plainListsAfter : TransferCall → Lists
+plainListsAfter c =
+    let address : Section → ℕ → ℕ = λ x. addressIn (plainLined x) in
+    cond (eqb (firstNo (plainTransfer c (length (plainPlaces c)))) 0)
+    (withEntries (plainPlaces c) (address (c .right)) (address (c .left)) (c .lists)) (c .lists)
 
 -- ---- the law
 
@@ -191,8 +205,5 @@ pub record AsDocument01 : Type 0 where
   pub of-section-steps : (x : Section) → Plain (x .mapping) → sectionSteps x ≡ plainSteps x
   pub of-first-place : (x : Section) → Plain (x .mapping) → (q : ℤ) → firstPlaceAt x q ≡ plainFirstPlace x q
   pub of-fill : (c : FillCall) → Plain (c .section .mapping) → fill c ≡ plainFill c
-  pub of-transfers : (c : TransferCall) → Plain (c .left .mapping) → Plain (c .right .mapping) → transfers c ≡ plainTransfers c
-  -- what the lists of a transfer may hold
-  pub of-pairs : (left right : Section) → Plain (left .mapping) → Plain (right .mapping) → (q m : ℕ)
-      → pairPlaces left right q m ≡ plainPairs left right q m
-  pub of-addresses : (x : Section) → Plain (x .mapping) → (t : ℕ) → address x t ≡ addressIn (plainLined x) t
+  pub of-transfers : (c : TransferCall) → Plain (c .left .mapping) → Plain (c .right .mapping)
+      → (transfers c ≡ plainTransfers c) × (listsAfter c ≡ plainListsAfter c)

@@ -1,6 +1,6 @@
 -- Document 02, A1, as a law of every answer: a mapping with declared bounds answers as the one with bounds 0 whose elements sit
 -- on the same cells, indices shifted by La. Statements only.
-use Prim.Native.Nat.{ℕ, _≤_}
+use Prim.Native.Nat.{_≤_}
 use mathlib.Core.Path.{_≡_}
 use mathlib.Core.Bool.{true, cond}
 use lib.Dec.{eqb}
@@ -8,11 +8,10 @@ use lib.IntN.{ℤ, pos, _+ℤ_, _-ℤ_}
 use Rattle.model.specs.declared.Mapping.{Mapping}
 use Rattle.model.specs.declared.Section.{Section}
 use Rattle.model.specs.Ownership.{cellUnder, layoutOf}
-use Rattle.model.specs.Sections.{address}
 use Rattle.model.specs.Questions.{firstNo, inRange, ofMapping}
 use Rattle.model.specs.Calls.{ownership, GoingBackAnswer, goingBack, localCount, sectionSteps, firstPlaceAt, FillCall, fill}
 use Rattle.model.specs.ByteFills.{ByteFill, bytesAfter, outcomeOf}
-use Rattle.model.specs.Transfers.{TransferCall, pairPlaces, transfers}
+use Rattle.model.specs.Transfers.{TransferCall, transfers, listsAfter}
 
 -- bounds 0, and as offset the first element's cell, a·La + b − Lt
 abbrev pub fromZero : Mapping → Mapping
@@ -90,8 +89,5 @@ pub record Shifted : Type 0 where
   pub of-fill : (c : FillCall) → BothIn (c .section) → fill c ≡ fill (fillFromZero c)
   pub of-byte-fill : (c : ByteFill) → BothIn (c .section)
       → (outcomeOf c ≡ outcomeOf (byteFillFromZero c)) × (bytesAfter c ≡ bytesAfter (byteFillFromZero c))
-  -- the answer, and what its lists may hold: the pair's positions and their addresses on both sides
-  pub of-transfers : (c : TransferCall) → BothIn (c .left) → BothIn (c .right) → transfers c ≡ transfers (transferFromZero c)
-  pub of-pairs : (left right : Section) → BothIn left → BothIn right → (q m : ℕ)
-      → pairPlaces left right q m ≡ pairPlaces (sectionFromZero left) (sectionFromZero right) q m
-  pub of-addresses : (x : Section) → BothIn x → (t : ℕ) → address x t ≡ address (sectionFromZero x) t
+  pub of-transfers : (c : TransferCall) → BothIn (c .left) → BothIn (c .right)
+      → (transfers c ≡ transfers (transferFromZero c)) × (listsAfter c ≡ listsAfter (transferFromZero c))

@@ -17,6 +17,7 @@ use Rattle.model.specs.Steps.{stepsOf}
 use Rattle.model.specs.Filling.{got, paid, standing}
 use Rattle.model.specs.Questions.{firstNo, ofMapping, ofSection}
 use Rattle.model.specs.Calls.{ownership, goingBack, FillCall, fill, StepReport, SectionStepsAnswer, sectionSteps}
+use Rattle.model.specs.Transfers.{listsAfter}
 
 -- ---- equality, as a test
 
@@ -64,6 +65,8 @@ pub data Row : Type 0 where
   -- from a processor's first place fills with these quotas, into lists of 8, give these entries, tries and next place;
   -- a quota of 2 is refused
   fills : Section → ℕ → ℕ → List ℕ → List ℕ → ℕ → ℕ → Row
+  -- a transfer from a sender to a receiver, into lists of 4, leaves these positions, sender's and receiver's addresses
+  transferred : Section → Section → ℕ → ℕ → List ℕ → List ℕ → List ℕ → Row
 
 abbrev stepNumbers : StepReport → List ℤ
 stepNumbers r = pos (r .cells) ∷ pos (r .courses) ∷ r .column ∷ []
@@ -93,6 +96,17 @@ holds (report x zs) = sameNumbers (reportNumbers (sectionSteps x)) zs
 holds (fills x q t quotas xs tries next) =
     let os = map fill (runFrom x q t quotas) in
     eqb (firstPlace x q) t && sameList (got os) xs && eqb (paid os) tries && eqb (standing t os) next
+holds (transferred left right q m ts sent received) =
+    let none : List ℕ = replicate 4 77 in
+    let x = listsAfter
+    (record {
+      left = left;
+      right = right;
+      sender = pos q;
+      receiver = pos m;
+      lists = record { positions = none; sent = none; received = none };
+    }) in
+    sameList (x .positions) ts && sameList (x .sent) sent && sameList (x .received) received
 
 abbrev pub every : List Row → Bool
 every [] = true
@@ -122,6 +136,10 @@ backward = on (mapped 96 3 4 1 0 96) (pos 91) (pos 0) (negsuc 6)
 -- document 004, figure 8.1
 abbrev aligned : Section
 aligned = on (mapped 144 4 4 3 0 48) (pos 0) (pos 47) (pos 3)
+
+-- our own: 41:2:-3 on figure 8.1's array
+abbrev alignedDown : Section
+alignedDown = on (mapped 144 4 4 3 0 48) (pos 41) (pos 2) (negsuc 2)
 
 -- one step
 abbrev single : Section
@@ -210,4 +228,8 @@ table =
     ∷ mapping (bounded 2 1 1 1 (pos 0) 0 (pos 0) (pos 2147483647)) 15
     ∷ mapping (bounded 10 1 1 1 (negsuc 0) 2 (pos 0) (pos 0)) 5
     ∷ mapping (bounded 10 1 1 1 (negsuc 0) 2 (pos 1) (pos 0)) 0
+    -- document 02, A2: positions rise, whichever side goes down; and a refused transfer, its lists too short, writes nothing
+    ∷ transferred forward alignedDown 2 0 (0 ∷ 2 ∷ 9 ∷ 77 ∷ []) (10 ∷ 8 ∷ 3 ∷ 77 ∷ []) (0 ∷ 6 ∷ 23 ∷ 77 ∷ [])
+    ∷ transferred alignedDown forward 0 2 (0 ∷ 2 ∷ 9 ∷ 77 ∷ []) (0 ∷ 6 ∷ 23 ∷ 77 ∷ []) (10 ∷ 8 ∷ 3 ∷ 77 ∷ [])
+    ∷ transferred forward forward 1 1 (77 ∷ 77 ∷ 77 ∷ 77 ∷ []) (77 ∷ 77 ∷ 77 ∷ 77 ∷ []) (77 ∷ 77 ∷ 77 ∷ 77 ∷ [])
     ∷ []

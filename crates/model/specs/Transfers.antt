@@ -1,9 +1,9 @@
--- Document 01, "Transfers": for left(section) = right(section), the entries of a pair of processors, the questions of a call
--- and what it answers and writes. Definitions only.
+-- Document 01, "Transfers": for left(section) = right(section), the entries of a pair of processors, in the order of document 02,
+-- A2; the questions of a call, and what it answers and writes. Definitions only.
 use Prim.Native.Nat.{ℕ, zero, suc, _+_, _<_}
 use mathlib.Core.Path.{_≡_}
-use mathlib.Core.Bool.{Bool, true, cond, _&&_}
-use mathlib.Core.List.{List, [], _∷_, _++_}
+use mathlib.Core.Bool.{Bool, cond, _&&_}
+use mathlib.Core.List.{List, [], _∷_, _++_, map}
 use lib.Dec.{leb, eqb}
 use lib.IntN.{ℤ}
 use lib.ListN.{length, getD, drop}
@@ -19,7 +19,7 @@ use Rattle.model.specs.Questions.{Question, ask, firstNo, ofSection, ofP
 unfoldable pub isEntry : Section → Section → ℕ → ℕ → ℕ → Bool
 isEntry left right q m t = ownsAt right q t && ownsAt left m t
 
--- "the entries of the pair are all positions t owned by q on the right and m on the left"
+-- "the entries of the pair are all positions t owned by q on the right and m on the left"; A2: "in rising section position"
 unfoldable pub pairPlaces : Section → Section → ℕ → ℕ → List ℕ
 pairPlaces left right q m = passing (isEntry left right q m) 0 (count left)
 
@@ -52,9 +52,12 @@ ofPair left right q m =
     ofSection left ++ ofSection right ++ ofProcessor (right .mapping) q ++ ofProcessor (left .mapping) m
     ++ ofCounts (count left) (count right)
 
--- how many entries the pair has
+-- the positions of the pair, and how many entries it has
+abbrev pub placesOf : TransferCall → List ℕ
+placesOf c = pairPlaces (c .left) (c .right) (nat (c .sender)) (nat (c .receiver))
+
 unfoldable pub entriesOf : TransferCall → ℕ
-entriesOf c = length (pairPlaces (c .left) (c .right) (nat (c .sender)) (nat (c .receiver)))
+entriesOf c = length (placesOf c)
 
 -- and 13
 abbrev pub ofTransfer : TransferCall → List Question
@@ -76,38 +79,22 @@ transfers c =
 
 -- ---- what a call writes
 
--- "list entries after those stay"
-pub record Kept (n : ℕ) (before after : List ℕ) : Type 0 where
-  pub same-length : length after ≡ length before
-  pub rest : drop n after ≡ drop n before
+-- "list entries after those stay": these entries, followed by what stood after them
+abbrev pub fronted : List ℕ → List ℕ → List ℕ
+fronted xs l = xs ++ drop (length xs) l
 
--- position t stands at exactly one of the first n places of a list
-pub record StandsOnce (n : ℕ) (l : List ℕ) (t : ℕ) : Type 0 where
-  pub place : ℕ
-  pub below : place < n
-  pub there : getD l place 0 ≡ t
-  pub only : (i : ℕ) → i < n → getD l i 0 ≡ t → i ≡ place
-
--- "each once, as t, sender's address, receiver's address, in three lists": the first n entries are the n entries of the
--- pair. Their order is left open in this edition: where a position stands is not said, but that it stands there once.
-pub record PairListed (left right : Section) (q m n : ℕ) (before after : Lists) : Type 0 where
-  -- each place holds a position of the pair, and each position of the pair has one place
-  pub below : (i : ℕ) → i < n → getD (after .positions) i 0 < count left
-  pub entry : (i : ℕ) → i < n → isEntry left right q m (getD (after .positions) i 0) ≡ true
-  pub once : (t : ℕ) → t < count left → isEntry left right q m t ≡ true → StandsOnce n (after .positions) t
-  -- the addresses are those of the position at the same place
-  pub sent : (i : ℕ) → i < n → getD (after .sent) i 0 ≡ address right (getD (after .positions) i 0)
-  pub received : (i : ℕ) → i < n → getD (after .received) i 0 ≡ address left (getD (after .positions) i 0)
-  pub positions-kept : Kept n (before .positions) (after .positions)
-  pub sent-kept : Kept n (before .sent) (after .sent)
-  pub received-kept : Kept n (before .received) (after .received)
+-- "as t, sender's address, receiver's address, in three lists": the entries of these positions, by the addresses on both sides
+abbrev pub withEntries : List ℕ → (ℕ → ℕ) → (ℕ → ℕ) → Lists → Lists
+withEntries ts sender receiver x = record {
+  positions = fronted ts (x .positions);
+  sent = fronted (map sender ts) (x .sent);
+  received = fronted (map receiver ts) (x .received);
+}
 
 -- the lists after a call: of a refusal "no list is written"
-pub record ListsAfter (c : TransferCall) (after : Lists) : Type 0 where
-  pub accepted :
-      transfers c .refusal ≡ 0
-      → PairListed (c .left) (c .right) (nat (c .sender)) (nat (c .receiver)) (transfers c .entries) (c .lists) after
-  pub refused : (transfers c .refusal ≡ 0 → ⊥) → after ≡ c .lists
+unfoldable pub listsAfter : TransferCall → Lists
+listsAfter c =
+    cond (eqb (firstNo (ofTransfer c)) 0) (withEntries (placesOf c) (address (c .right)) (address (c .left)) (c .lists)) (c .lists)
 
 -- ---- all pairs of an assignment
 
@@ -139,3 +126,6 @@ entriesInAll left right =
 pub record Assigned (left right : Section) : Type 0 where
   pub once : (t : ℕ) → t < count left → InOnePair left right t
   pub all : entriesInAll left right ≡ count left
+  -- A2: "the entries of a pair are from now on in rising section position"
+  pub rising : (q m i j : ℕ) → i < j → j < length (pairPlaces left right q m)
+      → getD (pairPlaces left right q m) i 0 < getD (pairPlaces left right q m) j 0

@@ -1,27 +1,27 @@
 -- What `transfers` answers and leaves in the lists, from the answer to the questions of the pair.
-use Prim.Native.Nat.{ℕ, _≤_}
-use mathlib.Core.Path.{_≡_, refl, sym, ap, _∙_, subst}
+use Prim.Native.Nat.{ℕ}
+use mathlib.Core.Path.{_≡_, refl, sym, ap, _∙_}
 use mathlib.Core.Bool.{Bool, true, false, not, cond, _&&_}
-use mathlib.Core.List.{List, [], _∷_, map}
+use mathlib.Core.List.{List, [], _∷_}
 use native.Mathlib.Omega.{arith}
-use borrow.Author.Tests.{ne-eqb, leb-true, eqb-false, not-true}
-use lib.Dec.{eqb, leb}
+use borrow.Author.Tests.{ne-eqb, eqb-false, not-true}
+use lib.Dec.{eqb}
 use lib.IntN.{ℤ}
 use lib.ListN.{length}
 use Rattle.numbers.proofs.Tests.{both-true}
 use Rattle.model.specs.declared.Section.{Section}
 use Rattle.model.specs.Ownership.{nat}
+use Rattle.model.specs.Sections.{address}
 use Rattle.model.specs.Questions.{Question, firstNo}
-use Rattle.model.specs.Transfers.{Lists, TransferCall, TransferAnswer, ofPair, ofRoom, ofTransfer, entriesOf, transfers, pairPlaces, PairListed, ListsAfter}
+use Rattle.model.specs.Transfers.{Lists, TransferCall, pairPlaces, placesOf, ofPair, ofRoom, ofTransfer, entriesOf, transfers, withEntries, listsAfter}
 use Rattle.model.proofs.QuestionLaws.{all-yes, asks-on, stops}
 use Rattle.section.specs.Strides.{stridedOf}
 use Rattle.transfer.specs.declared.questions.Pair.{Pair}
 use Rattle.transfer.specs.declared.questions.Paired.the-variants.{By, Refused}
 use Rattle.transfer.specs.Pairs.{pairOf, pairAsked}
-use Rattle.transfer.specs.Walks.{addressIn, fronted}
-use Rattle.transfer.specs.Answers.{listsOf, callOf, transferredAs, rising, hasRoom, listedIn, risingLists, listsIn}
+use Rattle.transfer.specs.Answers.{callOf, transferredAs, rising, hasRoom, listedIn, risingLists, listsIn}
 use Rattle.transfer.proofs.PairAnswers.{Passed, pair-passed, pair-stopped}
-use Rattle.transfer.proofs.PairLists.{same-places, after, pair-listed}
+use Rattle.transfer.proofs.PairLists.{same-places, same-lists}
 
 -- ---- a number that no question of a list has is not its refusal
 
@@ -62,11 +62,9 @@ module _ (left right : Section) (q m : ℤ) (x : Lists) where
     unfolding transfers
     answer-refused = rw (first, ne-eqb e 0 some, ne-eqb e 13 not-room)
 
-    pub lists-refused : ListsAfter call x
-    lists-refused = record {
-      accepted = λ z. absurd (some (ap (λ (a : TransferAnswer). a .refusal) answer-refused ∙ z));
-      refused = λ f. refl;
-    }
+    pub lists-refused : x ≡ listsAfter call
+    unfolding listsAfter
+    lists-refused = rw (first, ne-eqb e 0 some)
 
   -- ---- the pair passed
 
@@ -88,60 +86,30 @@ module _ (left right : Section) (q m : ℤ) (x : Lists) where
     after-pair : firstNo (ofTransfer call) ≡ firstNo (ofRoom (entriesOf call) x)
     after-pair = asks-on (ofPair left right q m) (ofRoom (entriesOf call) x) (all-yes (ofPair left right q m) refl (passed .none))
 
-    decided : (b : Bool) → hasRoom n x ≡ b
-        → transfers call ≡ cond b (record { refusal = 0; entries = n; needed = 0 }) (record { refusal = 13; entries = 0; needed = n })
-    unfolding transfers firstNo n
-    decided true e = rw (after-pair, e)
-    decided false e = rw (after-pair, e)
+    decided : (b : Bool) → hasRoom n x ≡ b → firstNo (ofTransfer call) ≡ cond b 0 13
+    unfolding firstNo n
+    decided b e = after-pair ∙ ap (λ (z : Bool). cond z 0 13) e
 
     pub answer-by : transferredAs (listedIn p x) ≡ transfers call
+    unfolding transfers n
     answer-by = go (hasRoom n x) refl
       where
         go : (b : Bool) → hasRoom n x ≡ b → transferredAs (listedIn p x) ≡ transfers call
-        go true e = rw (n-is, e) (sym (decided true e))
-        go false e = rw (n-is, e) (sym (decided false e))
+        go true e = rw (decided true e, n-is, e)
+        go false e = rw (decided false e, n-is, e)
 
-    -- the lists in rising order, by the pair's positions
-    lists-are : risingLists p x ≡ after left right (nat q) (nat m) x
+    lists-are : risingLists p x ≡ withEntries (placesOf call) (address right) (address left) x
     lists-are =
         ap (λ (z : Pair). risingLists z x) (passed .pair)
-        ∙ ap (λ (ts : List ℕ).
-        listsOf (fronted ts (x .positions)) (fronted (map (addressIn (stridedOf right)) ts) (x .sent))
-        (fronted (map (addressIn (stridedOf left)) ts) (x .received))) same
+        ∙ same-lists left right (passed .left-none) (passed .right-none) (passed .counts) q m x
 
-    room : hasRoom n x ≡ true → (n ≤ length (x .positions)) × (n ≤ length (x .sent)) × (n ≤ length (x .received))
-    room e =
-        let a = leb n (length (x .positions)) in
-        let b = leb n (length (x .sent)) in
-        let c = leb n (length (x .received)) in
-        let ab = both-true (a && b) c e in
-        let each = both-true a b (ab .0) in
-        (leb-true n (length (x .positions)) (each .0), leb-true n (length (x .sent)) (each .1), leb-true n (length (x .received)) (ab .1))
-
-    listed : hasRoom n x ≡ true → PairListed left right (nat q) (nat m) n x (risingLists p x)
-    unfolding n entriesOf
-    listed e =
-        subst (PairListed left right (nat q) (nat m) n x) (sym lists-are)
-        (pair-listed left right (passed .left-none) (passed .right-none) (passed .counts) (nat q) (nat m) x (room e))
-
-    pub lists-by : ListsAfter call (listsIn p x)
+    pub lists-by : listsIn p x ≡ listsAfter call
+    unfolding listsAfter
     lists-by = go (hasRoom n x) refl
       where
         same-room : (b : Bool) → hasRoom n x ≡ b → hasRoom (length (rising p)) x ≡ b
         same-room b e = ap (λ (k : ℕ). hasRoom k x) n-is ∙ e
 
-        go : (b : Bool) → hasRoom n x ≡ b → ListsAfter call (listsIn p x)
-        go true e =
-            rw (same-room true e)
-            (record {
-              accepted = λ z.
-                  subst (λ (a : TransferAnswer). PairListed left right (nat q) (nat m) (a .entries) x (risingLists p x))
-                  (sym (decided true e)) (listed e);
-              refused = λ f. absurd (f (ap (λ (a : TransferAnswer). a .refusal) (decided true e)));
-            })
-        go false e =
-            rw (same-room false e)
-            (record {
-              accepted = λ z. absurd (let t = ap (λ (a : TransferAnswer). a .refusal) (decided false e) in omega arith);
-              refused = λ f. refl;
-            })
+        go : (b : Bool) → hasRoom n x ≡ b → listsIn p x ≡ listsAfter call
+        go true e = rw (same-room true e, decided true e) lists-are
+        go false e = rw (same-room false e, decided false e)

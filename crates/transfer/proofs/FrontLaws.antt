@@ -6,8 +6,8 @@ use native.Mathlib.Nat.{zero-add, le-refl}
 use native.Mathlib.Numerals.{add-one}
 use native.Mathlib.Omega.{arith}
 use lib.ListN.{length, getD, take, drop, set, take-append-drop, length-set, length-append, length-drop, List·getD-append}
-use lib.Seq.{drop-cons, take-suc-set, drop-set-lt, take-append-seam, drop-append-seam}
-use Rattle.transfer.specs.Walks.{fronted}
+use lib.Seq.{drop-cons, take-suc-set, drop-set-lt, take-append-seam}
+use Rattle.model.specs.Transfers.{fronted}
 
 -- n entries of the list are written, and with the rest written after them it is the target
 pub record Front (target rest l : List ℕ) (n : ℕ) : Type 0 where
@@ -43,9 +43,6 @@ module _ (xs l : List ℕ) where
 
   pub front-take : take (length xs) (fronted xs l) ≡ xs
   front-take = take-append-seam xs (drop (length xs) l)
-
-  pub front-rest : drop (length xs) (fronted xs l) ≡ drop (length xs) l
-  front-rest = drop-append-seam xs (drop (length xs) l)
 
   pub front-length : length xs ≤ length l → length (fronted xs l) ≡ length l
   front-length h = omega (arith, length-append xs (drop (length xs) l), length-drop (length xs) l)

@@ -9,12 +9,12 @@ use borrow.Author.Tests.{le-leb, lt-leb}
 use lib.Dec.{leb}
 use lib.ListN.{length, getD, take}
 use Rattle.numbers.proofs.SearchLaws.{listed}
-use Rattle.model.specs.Transfers.{Lists}
+use Rattle.model.specs.Transfers.{Lists, fronted}
 use Rattle.transfer.specs.declared.questions.Share.{Share}
 use Rattle.transfer.specs.declared.questions.Pair.{Pair}
 use Rattle.transfer.specs.declared.listing.Transferred.the-variants.{Entries, Needs}
 use Rattle.transfer.specs.Pairs.{Accepted, mine, places}
-use Rattle.transfer.specs.Walks.{addressIn, Addressable, fronted}
+use Rattle.transfer.specs.Walks.{addressIn, Addressable}
 use Rattle.transfer.specs.Answers.{listsOf, rising, hasRoom, listedIn, listsIn}
 use Rattle.transfer.proofs.FrontLaws.{front-at, front-take, front-length}
 use Rattle.transfer.proofs.PairLaws.{share-bounded}

@@ -1,17 +1,17 @@
 -- The answer of `transfers`, each case read as document 01's numbers, and the lists of a pair. Definitions only.
 use Prim.Native.Nat.{ℕ}
 use mathlib.Core.Bool.{Bool, cond, _&&_}
-use mathlib.Core.List.{List, map}
+use mathlib.Core.List.{List}
 use lib.Dec.{leb}
 use lib.IntN.{ℤ}
 use lib.ListN.{length}
 use Rattle.model.specs.declared.Section.{Section}
-use Rattle.model.specs.Transfers.{Lists, TransferCall, TransferAnswer}
+use Rattle.model.specs.Transfers.{Lists, TransferCall, TransferAnswer, withEntries}
 use Rattle.transfer.specs.declared.questions.Pair.{Pair}
 use Rattle.transfer.specs.declared.listing.Transferred.{Transferred}
 use Rattle.transfer.specs.declared.listing.Transferred.the-variants.{Entries, Needs, Refused}
 use Rattle.transfer.specs.Pairs.{places}
-use Rattle.transfer.specs.Walks.{addressIn, fronted}
+use Rattle.transfer.specs.Walks.{addressIn}
 
 abbrev pub listsOf : List ℕ → List ℕ → List ℕ → Lists
 listsOf positions sent received = record { positions = positions; sent = sent; received = received }
@@ -37,11 +37,9 @@ hasRoom n x = leb n (length (x .positions)) && leb n (length (x .sent)) && leb n
 abbrev pub listedIn : Pair → Lists → Transferred
 listedIn p x = let n = length (rising p) in cond (hasRoom n x) (Entries n) (Needs n)
 
--- the entries in rising order of their positions, at the front of each list
+-- its entries, at the front of each list
 abbrev pub risingLists : Pair → Lists → Lists
-risingLists p x =
-    listsOf (fronted (rising p) (x .positions)) (fronted (map (addressIn (p .sender .section)) (rising p)) (x .sent))
-    (fronted (map (addressIn (p .receiver .section)) (rising p)) (x .received))
+risingLists p x = withEntries (rising p) (addressIn (p .sender .section)) (addressIn (p .receiver .section)) x
 
 abbrev pub listsIn : Pair → Lists → Lists
 listsIn p x = cond (hasRoom (length (rising p)) x) (risingLists p x) x

@@ -1,8 +1,8 @@
--- The walk along a share, and what is written at the front of a list. Definitions only.
+-- The walk along a share, and what the addresses of its positions ask for. Definitions only.
 use Prim.Native.Nat.{ℕ, _≤_, _<_}
 use mathlib.Core.Path.{_≡_}
-use mathlib.Core.List.{List, _++_}
-use lib.ListN.{length, getD, drop}
+use mathlib.Core.List.{List}
+use lib.ListN.{length, getD}
 use Rattle.model.specs.Ownership.{ownerOf, rank}
 use Rattle.section.specs.declared.questions.Strided.{Strided}
 use Rattle.section.specs.Strides.{Bounded, indexAt, placeIn, stepsIn}
@@ -19,10 +19,6 @@ pub record Along (w : Walk) : Type 0 where
 pub record At (w : Walk) (t : ℕ) : Type 0 where
   pub along : Along w
   pub below : t < w .walked .section .count
-
--- a list with these entries at its front
-abbrev pub fronted : List ℕ → List ℕ → List ℕ
-fronted xs l = xs ++ drop (length xs) l
 
 -- the local address of the element at position t
 abbrev pub addressIn : Strided → ℕ → ℕ

@@ -2,7 +2,7 @@
 // with both addresses. questions.rt puts the questions, walk.rt walks along the sender's or the
 // receiver's elements, whichever are fewer, and listing.rt writes what is found.
 ghost use mathlib.Core.Path.{_≡_};
-ghost use Rattle.model.specs.Transfers.{transfers, ListsAfter};
+ghost use Rattle.model.specs.Transfers.{transfers, listsAfter};
 ghost use Rattle.transfer.specs.Answers.{callOf, transferredAs, listsOf};
 use listing::Transferred;
 use listing::list_pair;
@@ -14,8 +14,8 @@ pub mod listing;
 mod questions;
 mod walk;
 
-// The entries of the pair: section positions, sender's addresses and receiver's addresses in
-// three lists. The order of the entries is left open.
+// The entries of the pair in rising section position: positions, sender's addresses and
+// receiver's addresses in three lists.
 pub fn transfers(
     left: Section,
     right: Section,
@@ -28,10 +28,9 @@ pub fn transfers(
     ensures { λ r. ⌜ transferredAs r
         ≡ transfers (callOf left right sender receiver
         (listsOf (now (positions .entry)) (now (sent .entry)) (now (received .entry)))) ⌝ }
-    ensures { λ r. ⌜ ListsAfter
-        (callOf left right sender receiver
-        (listsOf (now (positions .entry)) (now (sent .entry)) (now (received .entry))))
-        (listsOf (now (positions .exit)) (now (sent .exit)) (now (received .exit))) ⌝ }
+    ensures { λ r. ⌜ listsOf (now (positions .exit)) (now (sent .exit)) (now (received .exit))
+        ≡ listsAfter (callOf left right sender receiver
+        (listsOf (now (positions .entry)) (now (sent .entry)) (now (received .entry)))) ⌝ }
 {
     match ask_pair(left, right, sender, receiver) {
         Paired::By(p) => list_pair(p, positions, sent, received),

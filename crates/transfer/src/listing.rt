@@ -2,8 +2,9 @@
 ghost use mathlib.Core.Path.{_≡_};
 ghost use mathlib.Core.List.{map};
 ghost use lib.ListN.{take};
+ghost use Rattle.model.specs.Transfers.{fronted};
 ghost use Rattle.transfer.specs.Pairs.{Fit};
-ghost use Rattle.transfer.specs.Walks.{addressIn, Addressable, fronted};
+ghost use Rattle.transfer.specs.Walks.{addressIn, Addressable};
 ghost use Rattle.transfer.specs.Answers.{listsOf, listedIn, listsIn};
 use crate::questions::Pair;
 use crate::walk::count_along;

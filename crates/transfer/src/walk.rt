@@ -3,9 +3,10 @@
 ghost use mathlib.Core.Path.{_≡_};
 ghost use Prim.Native.Nat.{_≤_};
 ghost use lib.ListN.{length};
+ghost use Rattle.model.specs.Transfers.{fronted};
 ghost use Rattle.section.specs.Going.{nextIn};
 ghost use Rattle.transfer.specs.Pairs.{Meets, Fit, mine, places};
-ghost use Rattle.transfer.specs.Walks.{Along, At, fronted};
+ghost use Rattle.transfer.specs.Walks.{Along, At};
 use crate::questions::Pair;
 use crate::questions::Share;
 use model::Position;

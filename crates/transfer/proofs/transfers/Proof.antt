@@ -1,11 +1,10 @@
 -- `transfers` meets its contract: each case of the answer about the pair has its law.
-use mathlib.Core.Path.{_≡_, sym, ap, _∙_, subst}
+use mathlib.Core.Path.{_≡_, sym, ap, _∙_}
 use borrow.Author.Needs.{needs}
 use mir.Syntax.{w64}
 use mir.ValLaws.{toZ-ofZ}
-use Rattle.model.specs.Transfers.{ListsAfter}
 use Rattle.transfer.specs.Pairs.{pairAsked}
-use Rattle.transfer.specs.Answers.{listsOf, callOf, transferredAs}
+use Rattle.transfer.specs.Answers.{listsOf, transferredAs}
 use Rattle.transfer.proofs.PairAnswers.{pair-fits}
 use Rattle.transfer.proofs.CallAnswers.{answer-refused, lists-refused, answer-by, lists-by}
 use Rattle.transfer.proofs.transfers.Statement.{statement}
@@ -53,8 +52,7 @@ returns c =
     let x = listsOf (s .args .positions .now) (s .args .sent .now) (s .args .received .now) in
     let by = sym (answered (arm .before .before)) ∙ arm .p .given .1 in (
       ap transferredAs (listed .list-pair .ensures .0) ∙ answer-by (s .args .left) (s .args .right) (s .args .sender) (s .args .receiver) x _ by,
-      subst (ListsAfter (callOf (s .args .left) (s .args .right) (s .args .sender) (s .args .receiver) x)) (sym (listed .list-pair .ensures .1))
-          (lists-by (s .args .left) (s .args .right) (s .args .sender) (s .args .receiver) x _ by),
+      listed .list-pair .ensures .1 ∙ lists-by (s .args .left) (s .args .right) (s .args .sender) (s .args .receiver) x _ by,
     )
 
 returns-2 : tie.Need-returns-2

@@ -1,11 +1,11 @@
 -- `hpf_transfers` meets its contract: what `transfers` answers and leaves is of the parameters, and its numbers fit the fields.
-use mathlib.Core.Path.{_≡_, ap, subst, _∙_}
+use mathlib.Core.Path.{_≡_, ap, _∙_}
 use borrow.Author.Needs.{needs}
 use denote.Ref.{now}
 use mir.Syntax.{w64}
 use Rattle.numbers.proofs.Signed.{back}
 use Rattle.model.specs.declared.Section.{Section}
-use Rattle.model.specs.Transfers.{Lists, TransferCall, transfers, ListsAfter}
+use Rattle.model.specs.Transfers.{Lists, TransferCall, transfers, listsAfter}
 use Rattle.transfer.specs.Answers.{callOf, listsOf, transferredAs}
 use Rattle.hpfaddr.specs.Fields.{sectionFrom}
 use Rattle.hpfaddr.specs.Sizes.{TransferredFits}
@@ -52,9 +52,6 @@ read c =
     (section-read _ _ _ _ _ _ _ _ _ _ _ (s .fits .right-cells) (s .fits .right-processors) (s .fits .right-block) (s .fits .right-stride) (s .fits .right-offset) (s .fits .right-size) (s .fits .right-array-lower) (s .fits .right-template-lower) (s .fits .right-lower) (s .fits .right-upper) (s .fits .right-step) (c .section-of2 .ensures))
     (lists s)
 
-lists-read : (c : tie.After-section-of2) (after : Lists) → ListsAfter (made c) after → ListsAfter (call (c .before .before .before .before .before)) after
-lists-read c after = subst (λ (x : TransferCall). ListsAfter x after) (read c)
-
 answer : (c : tie.After-transfers) → let s : tie.Start = c .before .before .before .before .before .before .before .before .before in
     transferredAs (c .transfers .result) ≡ transfers (call s)
 answer c = c .transfers .ensures .0 ∙ ap transfers (read (c .before .before .before .before))
@@ -77,7 +74,7 @@ returns : tie.Need-returns
 returns c =
     let done = c .before .before .before .before .before .before .before in
     let a = with-size TransferredFits (c .fields-of .ensures ∙ answer done) (transfers-small _) in
-    ((a .0, lists-read (done .before .before .before .before) _ (done .transfers .ensures .1)), a .1)
+    ((a .0, done .transfers .ensures .1 ∙ ap listsAfter (read (done .before .before .before .before))), a .1)
 
 pub hpf-transfers-spec : {M : Type 1} → statement M
 hpf-transfers-spec =

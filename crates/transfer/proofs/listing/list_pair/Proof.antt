@@ -6,8 +6,8 @@ use mathlib.Core.Logic.{inl, inr}
 use native.Mathlib.Omega.{arith}
 use borrow.Author.Needs.{needs}
 use lib.ListN.{length}
-use Rattle.model.specs.Transfers.{Lists}
-use Rattle.transfer.specs.Walks.{Addressable, fronted}
+use Rattle.model.specs.Transfers.{Lists, fronted}
+use Rattle.transfer.specs.Walks.{Addressable}
 use Rattle.transfer.specs.Answers.{listsOf, rising}
 use Rattle.transfer.proofs.ListingLaws.{room-yes, room-no, too-short, addressable, all-listed}
 use Rattle.transfer.proofs.listing.list_pair.Statement.{statement}

@@ -6,7 +6,8 @@ use mathlib.Core.List.{map}
 use native.Mathlib.Numerals.{add-one}
 use native.Mathlib.Omega.{arith}
 use lib.ListN.{length, take, length-set}
-use Rattle.transfer.specs.Walks.{addressIn, fronted}
+use Rattle.model.specs.Transfers.{fronted}
+use Rattle.transfer.specs.Walks.{addressIn}
 use Rattle.transfer.proofs.FrontLaws.{Front, starts, same-rest, writes, ends}
 use Rattle.transfer.proofs.AddressLists.{left, left-all, left-next, left-none, address-high}
 use Rattle.transfer.proofs.listing.write_addresses.Statement.{statement}

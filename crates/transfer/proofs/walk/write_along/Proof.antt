@@ -5,8 +5,8 @@ use mathlib.Core.Path.{_≡_, refl, sym, _∙_}
 use mathlib.Core.List.{_∷_}
 use native.Mathlib.Omega.{arith}
 use lib.ListN.{length, length-set}
+use Rattle.model.specs.Transfers.{fronted}
 use Rattle.transfer.specs.Pairs.{places}
-use Rattle.transfer.specs.Walks.{fronted}
 use Rattle.transfer.proofs.FrontLaws.{Front, starts, same-rest, writes, ends}
 use Rattle.transfer.proofs.AlongLaws.{Stands, ahead, none-ahead, Turn, count-high, begins, all-ahead, turn}
 use Rattle.transfer.proofs.walk.write_along.Statement.{statement}

@@ -19,6 +19,10 @@ static held goals[GOALS] = {
     [LONG_OTHER] = {"long fills, other a and s: fill / table walk", "", 2.0, 0, 0, 0, 0, {0}},
     [SHORT_FILLS] = {"short fills, k = 65,536: table walk with its set-up / fill", "", 20.0, 1, 0, 0, 0, {0}},
     [GOING_BACK] = {"going back, a = 1", " ns", 1000.0, 0, 0, 0, 0, {0}},
+    [CHECKPOINT_LOOP] = {"checkpoint / C loop", "", 1.3, 0, 0, 0, 0, {0}},
+    [RESTORE_LOOP] = {"restore / C loop", "", 1.3, 0, 0, 0, 0, {0}},
+    [CHECKPOINT_MEMCPY] = {"k / a of 64 or more: checkpoint / memcpy", "", 2.0, 0, 0, 0, 0, {0}},
+    [RESTORE_MEMCPY] = {"k / a of 64 or more: restore / memcpy", "", 2.0, 0, 0, 0, 0, {0}},
 };
 
 void hold_against(goal g, double figure, const input *in)
@@ -41,6 +45,8 @@ void print_goals(void)
     for (goal g = 0; g < GOALS; g++) {
         const held *h = &goals[g];
         const input *in = &h->where;
+        if (h->inputs == 0)
+            continue;
         printf("| %s | at %s %.4g%s | %.4g%s | %s | %" PRId64 " | %" PRId64 " | %" PRId64 " | ", h->what,
                h->at_least ? "least" : "most", h->bound, h->unit, h->worst, h->unit,
                h->met == h->inputs ? "yes" : "**no**", in->processors, in->block, in->stride);

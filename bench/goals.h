@@ -4,11 +4,23 @@
 
 #include "library.h"
 
-typedef enum { LONG_STRIDE_1, LONG_STEP_1, LONG_OTHER, SHORT_FILLS, GOING_BACK, GOALS } goal;
+typedef enum {
+    LONG_STRIDE_1,
+    LONG_STEP_1,
+    LONG_OTHER,
+    SHORT_FILLS,
+    GOING_BACK,
+    CHECKPOINT_LOOP,
+    RESTORE_LOOP,
+    CHECKPOINT_MEMCPY,
+    RESTORE_MEMCPY,
+    GOALS
+} goal;
 
 /* Holds a figure against a goal. */
 void hold_against(goal g, double figure, const input *in);
 
+/* Prints the goals that something was held against. */
 void print_goals(void);
 
 #endif

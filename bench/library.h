@@ -49,4 +49,19 @@ static inline hpf_filled fill(const input *in, int64_t place, uint32_t *list, si
                     in->processor, place, 3 * (int64_t)entries, (uint8_t *)list, 4 * entries);
 }
 
+/* the whole array's words, from storage to index order and back */
+static inline hpf_copied checkpoint(const input *in, const int64_t *storage, int64_t *saved)
+{
+    size_t words = (size_t)in->size;
+    return hpf_checkpoint(in->cells, in->processors, in->block, in->stride, 0, in->size, 0, 0, storage, words, saved,
+                          words);
+}
+
+static inline hpf_copied restore(const input *in, const int64_t *saved, int64_t *storage)
+{
+    size_t words = (size_t)in->size;
+    return hpf_restore(in->cells, in->processors, in->block, in->stride, 0, in->size, 0, 0, saved, words, storage,
+                       words);
+}
+
 #endif

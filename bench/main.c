@@ -1,16 +1,31 @@
-/* Prints all tables in Markdown; with the argument `each` every long fill too, on standard error. */
+/*
+ * Prints all tables in Markdown; with the argument `each` every long fill and every loop beside a checkpoint too,
+ * on standard error. With `checkpoints` it prints the tables and the goals of these only.
+ */
 #include <string.h>
 
 #include "goals.h"
 #include "tables.h"
 
+static int asked_for(const char *word, int argc, char **argv)
+{
+    for (int i = 1; i < argc; i++)
+        if (strcmp(argv[i], word) == 0)
+            return 1;
+    return 0;
+}
+
 int main(int argc, char **argv)
 {
-    print_long_fills(argc > 1 && strcmp(argv[1], "each") == 0);
-    print_short_fills();
-    print_elements();
-    print_sections();
-    print_growth();
+    int each_input = asked_for("each", argc, argv);
+    if (!asked_for("checkpoints", argc, argv)) {
+        print_long_fills(each_input);
+        print_short_fills();
+        print_elements();
+        print_sections();
+        print_growth();
+    }
+    print_checkpoints(each_input);
     print_goals();
     return 0;
 }

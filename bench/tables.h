@@ -13,4 +13,7 @@ void print_sections(void);
 /* growth.c */
 void print_growth(void);
 
+/* checkpoints.c */
+void print_checkpoints(int each_input);
+
 #endif

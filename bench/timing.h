@@ -37,7 +37,7 @@ static inline int64_t calls_of_batch(const void *context, timed_call *call)
 /* nanoseconds per call of each way, 0 for a way that there is not; a call that takes long is made twice only */
 static inline void time_ways(const void *context, timed_call *const ways[], int count, double times[])
 {
-    enum { ROUNDS = 33, MOST_WAYS = 8 };
+    enum { ROUNDS = 33, MOST_WAYS = 10 };
     const double long_call = 2e6;
     int64_t calls[MOST_WAYS];
     for (int way = 0; way < count; way++) {
@@ -50,6 +50,17 @@ static inline void time_ways(const void *context, timed_call *const ways[], int 
                 continue;
             double time = batch(context, ways[way], calls[way]);
             if (time < times[way])
+                times[way] = time;
+        }
+}
+
+/* nanoseconds of one call of each way, as above, if calls take longer than the clock needs: the least of some rounds */
+static inline void time_long_calls(const void *context, timed_call *const ways[], int count, int rounds, double times[])
+{
+    for (int round = 0; round < rounds; round++)
+        for (int way = 0; way < count; way++) {
+            double time = ways[way] ? batch(context, ways[way], 1) : 0;
+            if (round == 0 || time < times[way])
                 times[way] = time;
         }
 }

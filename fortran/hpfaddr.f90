@@ -1,5 +1,5 @@
-! hpfaddr: owners, local addresses, sections and assignments of one-dimensional
-! block-cyclic arrays.
+! hpfaddr: owners, local addresses, sections, assignments and checkpoints of
+! one-dimensional block-cyclic arrays.
 !
 ! A mapping is eight numbers: a template of `cells` cells (1 to 2147483647) is
 ! dealt to `processors` processors (1 to 1024) in blocks of `block` cells (1 to
@@ -39,45 +39,40 @@
 ! to a receiver, its owner on the left. hpf_transfers lists the positions of one
 ! sender and one receiver, rising, with the addresses on both.
 !
-! Every call returns, whatever numbers it is given; it keeps no state, and a fill
-! or a transfer writes only the lists it is lent, so any number of threads may
-! call them at once, each with its own lists. include/hpfaddr.h says what is
-! guaranteed.
+! The storage of an array is its processors' words laid end to end, processor 0's first,
+! each one's in the order of local addresses. hpf_checkpoint writes them in index order,
+! and hpf_restore from index order into the storage of any mapping of as many elements:
+! each element's word is then where that mapping has it.
+!
+! Every call returns, whatever numbers it is given; it keeps no state, and writes only
+! the lists that it is lent, so any number of threads may call at once, each with its
+! own lists. include/hpfaddr.h says what is guaranteed.
 module hpfaddr
-  use, intrinsic :: iso_c_binding, only: c_int32_t, c_int64_t, c_size_t, c_ptr, c_loc, c_null_ptr
+  use, intrinsic :: iso_c_binding, only: c_int32_t, c_int64_t, c_size_t, c_double, c_ptr, c_loc, c_null_ptr
   use hpfaddr_numbers
   implicit none
   private
 
   public :: hpf_mapping, hpf_triplet
-  public :: hpf_owned, hpf_found, hpf_counted, hpf_steps, hpf_placed, hpf_filled, hpf_transferred
+  public :: hpf_owned, hpf_found, hpf_counted, hpf_steps, hpf_placed, hpf_filled, hpf_transferred, hpf_copied
   public :: hpf_ownership, hpf_going_back, hpf_local_count
   public :: hpf_section_steps, hpf_first_place, hpf_fill, hpf_fill_words
-  public :: hpf_transfers
+  public :: hpf_transfers, hpf_checkpoint, hpf_restore
   public :: hpf_accepted, hpf_refused_cells, hpf_refused_processors, hpf_refused_block
   public :: hpf_refused_alignment, hpf_refused_size, hpf_refused_bounds, hpf_refused_triplet
   public :: hpf_refused_section, hpf_refused_processor_number, hpf_refused_element
-  public :: hpf_refused_place, hpf_refused_quota, hpf_refused_counts, hpf_refused_room
-  public :: hpf_least_quota, hpf_largest_quota
+  public :: hpf_refused_place, hpf_refused_quota, hpf_refused_counts, hpf_refused_room, hpf_least_quota, hpf_largest_quota
 
   ! A mapping. Bounds that are left out are 0, as in
   ! hpf_mapping(cells=96, processors=3, block=4, stride=1, offset=0, size=96).
   type :: hpf_mapping
-    integer(c_int64_t) :: cells
-    integer(c_int64_t) :: processors
-    integer(c_int64_t) :: block
-    integer(c_int64_t) :: stride
-    integer(c_int64_t) :: offset
-    integer(c_int64_t) :: size
-    integer(c_int64_t) :: array_lower = 0
-    integer(c_int64_t) :: template_lower = 0
+    integer(c_int64_t) :: cells, processors, block, stride, offset, size
+    integer(c_int64_t) :: array_lower = 0, template_lower = 0
   end type hpf_mapping
 
   ! A section. Its step is the stride of a Fortran subscript triplet.
   type :: hpf_triplet
-    integer(c_int64_t) :: lower
-    integer(c_int64_t) :: upper
-    integer(c_int64_t) :: stride
+    integer(c_int64_t) :: lower, upper, stride
   end type hpf_triplet
 
   ! The owner and the local address of the element with this declared index.
@@ -132,6 +127,22 @@ module hpfaddr
   interface hpf_transfers
     procedure plain_transfers, typed_transfers
   end interface hpf_transfers
+
+  ! Writes the words of an array in index order: saved(i) is the word of element
+  ! array_lower + i - 1, for each i from 1 to size. The lists are two arrays of 64-bit
+  ! integers, two of 64-bit reals, or for each a c_ptr to such words and their number,
+  ! which may be c_null_ptr only if that is 0. They may not overlap. Words after the first
+  ! `size` stay, in both. Too short a list is answered by 13 and the words needed.
+  interface hpf_checkpoint
+    procedure plain_checkpoint, plain_checkpoint_integers, plain_checkpoint_reals
+    procedure typed_checkpoint, typed_checkpoint_integers, typed_checkpoint_reals
+  end interface hpf_checkpoint
+
+  ! Puts words that stand in index order where the mapping has their elements, on such lists.
+  interface hpf_restore
+    procedure plain_restore, plain_restore_integers, plain_restore_reals
+    procedure typed_restore, typed_restore_integers, typed_restore_reals
+  end interface hpf_restore
 
 contains
 
@@ -231,5 +242,59 @@ contains
       positions, size(positions, kind=c_size_t), sent, size(sent, kind=c_size_t), &
       received, size(received, kind=c_size_t))
   end function typed_transfers
+
+  function typed_checkpoint(m, storage, storage_words, saved, saved_words) result(copied)
+    type(hpf_mapping), intent(in) :: m
+    type(c_ptr), intent(in) :: storage, saved
+    integer(c_size_t), intent(in) :: storage_words, saved_words
+    type(hpf_copied) :: copied
+    copied = plain_checkpoint(m%cells, m%processors, m%block, m%stride, m%offset, m%size, &
+      m%array_lower, m%template_lower, storage, storage_words, saved, saved_words)
+  end function typed_checkpoint
+
+  function typed_checkpoint_integers(m, storage, saved) result(copied)
+    type(hpf_mapping), intent(in) :: m
+    integer(c_int64_t), intent(in), contiguous :: storage(:)
+    integer(c_int64_t), intent(inout), contiguous :: saved(:)
+    type(hpf_copied) :: copied
+    copied = plain_checkpoint_integers(m%cells, m%processors, m%block, m%stride, m%offset, m%size, &
+      m%array_lower, m%template_lower, storage, saved)
+  end function typed_checkpoint_integers
+
+  function typed_checkpoint_reals(m, storage, saved) result(copied)
+    type(hpf_mapping), intent(in) :: m
+    real(c_double), intent(in), contiguous :: storage(:)
+    real(c_double), intent(inout), contiguous :: saved(:)
+    type(hpf_copied) :: copied
+    copied = plain_checkpoint_reals(m%cells, m%processors, m%block, m%stride, m%offset, m%size, &
+      m%array_lower, m%template_lower, storage, saved)
+  end function typed_checkpoint_reals
+
+  function typed_restore(m, saved, saved_words, storage, storage_words) result(copied)
+    type(hpf_mapping), intent(in) :: m
+    type(c_ptr), intent(in) :: saved, storage
+    integer(c_size_t), intent(in) :: saved_words, storage_words
+    type(hpf_copied) :: copied
+    copied = plain_restore(m%cells, m%processors, m%block, m%stride, m%offset, m%size, &
+      m%array_lower, m%template_lower, saved, saved_words, storage, storage_words)
+  end function typed_restore
+
+  function typed_restore_integers(m, saved, storage) result(copied)
+    type(hpf_mapping), intent(in) :: m
+    integer(c_int64_t), intent(in), contiguous :: saved(:)
+    integer(c_int64_t), intent(inout), contiguous :: storage(:)
+    type(hpf_copied) :: copied
+    copied = plain_restore_integers(m%cells, m%processors, m%block, m%stride, m%offset, m%size, &
+      m%array_lower, m%template_lower, saved, storage)
+  end function typed_restore_integers
+
+  function typed_restore_reals(m, saved, storage) result(copied)
+    type(hpf_mapping), intent(in) :: m
+    real(c_double), intent(in), contiguous :: saved(:)
+    real(c_double), intent(inout), contiguous :: storage(:)
+    type(hpf_copied) :: copied
+    copied = plain_restore_reals(m%cells, m%processors, m%block, m%stride, m%offset, m%size, &
+      m%array_lower, m%template_lower, saved, storage)
+  end function typed_restore_reals
 
 end module hpfaddr

@@ -2,16 +2,17 @@
 ! their refusals. The module hpfaddr, which programs use, says what the numbers
 ! mean, and has each call on a mapping and a section as one thing each, too.
 module hpfaddr_numbers
-  use, intrinsic :: iso_c_binding, only: c_int32_t, c_int64_t, c_size_t, c_ptr
+  use, intrinsic :: iso_c_binding, only: c_int32_t, c_int64_t, c_size_t, c_double, c_ptr, c_loc, c_null_ptr
   implicit none
   public
+  private :: start_of, start_of_integers, start_of_reals
 
   ! The component `refusal` of an answer: 0, or the number of the first question
   ! answered no, of those that concern the call; every other component is then 0,
   ! but for what 13 adds, and a lent list is left as it was. The questions are asked
   ! in this order; 5 has two halves, with 15 between them. hpf_transfers asks 1 to 7,
   ! with 15, of the left section, then of the right one, 8 of the sender, 8 of the
-  ! receiver, 12 and 13.
+  ! receiver, 12 and 13; hpf_checkpoint and hpf_restore ask 1 to 5, with 15, and 13.
   integer(c_int32_t), parameter :: hpf_accepted = 0
   ! is cells in its range?
   integer(c_int32_t), parameter :: hpf_refused_cells = 1
@@ -40,7 +41,7 @@ module hpfaddr_numbers
   integer(c_int32_t), parameter :: hpf_refused_quota = 11
   ! have both sections the same count?
   integer(c_int32_t), parameter :: hpf_refused_counts = 12
-  ! has each of the three lists at least as many entries as the pair?
+  ! has each list room: for the pair's entries, for the array's words?
   integer(c_int32_t), parameter :: hpf_refused_room = 13
 
   ! The quotas of a fill. A fill goes on only while it has the least of them left.
@@ -105,6 +106,13 @@ module hpfaddr_numbers
     integer(c_int32_t) :: entries
     integer(c_int32_t) :: needed
   end type hpf_transferred
+
+  ! What a checkpoint or a restore did: with refusal 13, how many words each list
+  ! needs.
+  type, bind(c) :: hpf_copied
+    integer(c_int32_t) :: refusal
+    integer(c_int32_t) :: needed
+  end type hpf_copied
 
   interface
 
@@ -189,6 +197,94 @@ module hpfaddr_numbers
       type(hpf_transferred) :: transferred
     end function plain_transfers
 
+    function plain_checkpoint(cells, processors, block, stride, offset, size, &
+        array_lower, template_lower, storage, storage_words, saved, saved_words) &
+        result(copied) bind(c, name='hpf_checkpoint')
+      import :: c_int64_t, c_size_t, c_ptr, hpf_copied
+      integer(c_int64_t), value :: cells, processors, block, stride, offset, size
+      integer(c_int64_t), value :: array_lower, template_lower
+      type(c_ptr), value :: storage, saved
+      integer(c_size_t), value :: storage_words, saved_words
+      type(hpf_copied) :: copied
+    end function plain_checkpoint
+
+    function plain_restore(cells, processors, block, stride, offset, size, &
+        array_lower, template_lower, saved, saved_words, storage, storage_words) &
+        result(copied) bind(c, name='hpf_restore')
+      import :: c_int64_t, c_size_t, c_ptr, hpf_copied
+      integer(c_int64_t), value :: cells, processors, block, stride, offset, size
+      integer(c_int64_t), value :: array_lower, template_lower
+      type(c_ptr), value :: saved, storage
+      integer(c_size_t), value :: saved_words, storage_words
+      type(hpf_copied) :: copied
+    end function plain_restore
+
   end interface
+
+  ! Where the words of an array begin, for C. One of no words begins nowhere.
+  interface start_of
+    procedure start_of_integers, start_of_reals
+  end interface start_of
+
+contains
+
+  function start_of_integers(words) result(start)
+    integer(c_int64_t), intent(in), target, contiguous :: words(:)
+    type(c_ptr) :: start
+    start = c_null_ptr
+    if (size(words, kind=c_size_t) > 0) start = c_loc(words)
+  end function start_of_integers
+
+  function start_of_reals(words) result(start)
+    real(c_double), intent(in), target, contiguous :: words(:)
+    type(c_ptr) :: start
+    start = c_null_ptr
+    if (size(words, kind=c_size_t) > 0) start = c_loc(words)
+  end function start_of_reals
+
+  ! Checkpoints and restores of arrays, each of all its words; none is copied first.
+  function plain_checkpoint_integers(cells, processors, block, stride, offset, size, &
+      array_lower, template_lower, storage, saved) result(copied)
+    integer(c_int64_t), intent(in) :: cells, processors, block, stride, offset, size
+    integer(c_int64_t), intent(in) :: array_lower, template_lower
+    integer(c_int64_t), intent(in), target, contiguous :: storage(:)
+    integer(c_int64_t), intent(inout), target, contiguous :: saved(:)
+    type(hpf_copied) :: copied
+    copied = plain_checkpoint(cells, processors, block, stride, offset, size, array_lower, template_lower, &
+      start_of(storage), ubound(storage, 1, c_size_t), start_of(saved), ubound(saved, 1, c_size_t))
+  end function plain_checkpoint_integers
+
+  function plain_checkpoint_reals(cells, processors, block, stride, offset, size, &
+      array_lower, template_lower, storage, saved) result(copied)
+    integer(c_int64_t), intent(in) :: cells, processors, block, stride, offset, size
+    integer(c_int64_t), intent(in) :: array_lower, template_lower
+    real(c_double), intent(in), target, contiguous :: storage(:)
+    real(c_double), intent(inout), target, contiguous :: saved(:)
+    type(hpf_copied) :: copied
+    copied = plain_checkpoint(cells, processors, block, stride, offset, size, array_lower, template_lower, &
+      start_of(storage), ubound(storage, 1, c_size_t), start_of(saved), ubound(saved, 1, c_size_t))
+  end function plain_checkpoint_reals
+
+  function plain_restore_integers(cells, processors, block, stride, offset, size, &
+      array_lower, template_lower, saved, storage) result(copied)
+    integer(c_int64_t), intent(in) :: cells, processors, block, stride, offset, size
+    integer(c_int64_t), intent(in) :: array_lower, template_lower
+    integer(c_int64_t), intent(in), target, contiguous :: saved(:)
+    integer(c_int64_t), intent(inout), target, contiguous :: storage(:)
+    type(hpf_copied) :: copied
+    copied = plain_restore(cells, processors, block, stride, offset, size, array_lower, template_lower, &
+      start_of(saved), ubound(saved, 1, c_size_t), start_of(storage), ubound(storage, 1, c_size_t))
+  end function plain_restore_integers
+
+  function plain_restore_reals(cells, processors, block, stride, offset, size, &
+      array_lower, template_lower, saved, storage) result(copied)
+    integer(c_int64_t), intent(in) :: cells, processors, block, stride, offset, size
+    integer(c_int64_t), intent(in) :: array_lower, template_lower
+    real(c_double), intent(in), target, contiguous :: saved(:)
+    real(c_double), intent(inout), target, contiguous :: storage(:)
+    type(hpf_copied) :: copied
+    copied = plain_restore(cells, processors, block, stride, offset, size, array_lower, template_lower, &
+      start_of(saved), ubound(saved, 1, c_size_t), start_of(storage), ubound(storage, 1, c_size_t))
+  end function plain_restore_reals
 
 end module hpfaddr_numbers

@@ -1,5 +1,5 @@
 /*
- * hpfaddr.h: owners, local addresses, sections and assignments of
+ * hpfaddr.h: owners, local addresses, sections, assignments and checkpoints of
  * one-dimensional block-cyclic arrays.
  *
  * A template is a row of cells, dealt to processors in blocks, as CYCLIC(k) of
@@ -57,11 +57,17 @@
  * right, to a receiver, its owner on the left. The positions of one sender and one
  * receiver, rising, are the entries of their pair; each position is in one pair, once.
  *
+ * The storage of an array is its processors' words laid end to end: those of processor
+ * 0 first, each processor's in the order of their local addresses, size words in all.
+ * hpf_checkpoint writes them in index order, and hpf_restore from index order into the
+ * storage of any mapping of as many elements: an array that is saved under one mapping
+ * and restored under another has each element's word where the other mapping has it.
+ *
  * What is guaranteed:
  * - Every call returns, whatever numbers it is given.
  * - Each field of each answer and each byte of a lent list afterwards, refusals
  *   too, is proved to equal its definition.
- * - Ownership and going back undo each other.
+ * - Ownership and going back undo each other, and so do checkpoint and restore.
  * - Fills one after another, from the first place on, give each element of the
  *   processor's list once and in order, whatever their quotas and lists, also
  *   with refused fills between them.
@@ -82,9 +88,10 @@ extern "C" {
  * The field refusal of an answer. A call asks these questions in this order, those
  * that concern its arguments, and stops at the first one answered no; 5 has two
  * halves, with 15 between them. hpf_transfers asks 1 to 7, with 15, of the left
- * section, then of the right one, 8 of the sender, 8 of the receiver, 12 and 13. The
- * refusal is the number of that question, every other field is 0, but for what 13
- * adds, and a lent list is left as it was.
+ * section, then of the right one, 8 of the sender, 8 of the receiver, 12 and 13;
+ * hpf_checkpoint and hpf_restore ask 1 to 5, with 15, and 13. The refusal is the
+ * number of that question, every other field is 0, but for what 13 adds, and a lent
+ * list is left as it was.
  */
 enum {
     HPF_ACCEPTED = 0,
@@ -101,7 +108,7 @@ enum {
     HPF_REFUSED_PLACE = 10,           /* is the place the count, or a position whose element the processor owns? */
     HPF_REFUSED_QUOTA = 11,           /* is the quota in its range? */
     HPF_REFUSED_COUNTS = 12,          /* have both sections the same count? */
-    HPF_REFUSED_ROOM = 13             /* has each of the three lists at least as many entries as the pair? */
+    HPF_REFUSED_ROOM = 13             /* has each list room: for the pair's entries, for the array's words? */
 };
 
 /* The quotas of a fill. A fill goes on only while it has the least of them left. */
@@ -172,6 +179,12 @@ typedef struct hpf_transferred {
     int32_t needed;  /* with refusal 13, how many entries the pair has; else 0 */
 } hpf_transferred;
 
+/* What a checkpoint or a restore did. */
+typedef struct hpf_copied {
+    int32_t refusal; /* 0, or 1 to 5, or 13, or 15 */
+    int32_t needed;  /* with refusal 13, how many words each list needs: size; else 0 */
+} hpf_copied;
+
 /* The owner and the local address of the element with this declared index. */
 hpf_owned hpf_ownership(int64_t cells, int64_t processors, int64_t block, int64_t stride, int64_t offset, int64_t size,
                         int64_t array_lower, int64_t template_lower, int64_t index);
@@ -235,6 +248,26 @@ hpf_transferred hpf_transfers(int64_t left_cells, int64_t left_processors, int64
                               int32_t *sent, size_t sent_entries, int32_t *received, size_t received_entries);
 
 /*
+ * Writes the words of an array in index order: saved[i] is the word of element
+ * array_lower + i, for each i below size. In storage it lies after the words of all
+ * lower processors, at its local address.
+ *
+ * Each list is an array of 64-bit words, aligned as such, with as many as the number
+ * beside it says; words may be any 8 bytes, a double too. The two lists may not overlap.
+ * Words from size on stay, in both. No other thread may write to either list meanwhile,
+ * or use the one that is written. A list may be NULL only if its number is 0. With lists
+ * that are too short the answer is 13 and the words needed.
+ */
+hpf_copied hpf_checkpoint(int64_t cells, int64_t processors, int64_t block, int64_t stride, int64_t offset,
+                          int64_t size, int64_t array_lower, int64_t template_lower,
+                          const int64_t *storage, size_t storage_words, int64_t *saved, size_t saved_words);
+
+/* Puts size words that stand in index order where the mapping has their elements: the other way, on such lists. */
+hpf_copied hpf_restore(int64_t cells, int64_t processors, int64_t block, int64_t stride, int64_t offset, int64_t size,
+                       int64_t array_lower, int64_t template_lower,
+                       const int64_t *saved, size_t saved_words, int64_t *storage, size_t storage_words);
+
+/*
  * The same calls on a mapping and a section as one thing each. Every number has its
  * name (a section's step is its stride), and bounds that are left out are 0, as in
  * (hpf_mapping){.cells = 96, .processors = 3, .block = 4, .stride = 1, .size = 96}.
@@ -265,6 +298,18 @@ static inline hpf_found hpf_going_back_of(hpf_mapping m, int64_t processor, int6
 static inline hpf_counted hpf_local_count_of(hpf_mapping m, int64_t processor)
 {
     return hpf_local_count(HPF_MAPPING_NUMBERS(m), processor);
+}
+
+static inline hpf_copied hpf_checkpoint_of(hpf_mapping m, const int64_t *storage, size_t storage_words, int64_t *saved,
+                                           size_t saved_words)
+{
+    return hpf_checkpoint(HPF_MAPPING_NUMBERS(m), storage, storage_words, saved, saved_words);
+}
+
+static inline hpf_copied hpf_restore_of(hpf_mapping m, const int64_t *saved, size_t saved_words, int64_t *storage,
+                                        size_t storage_words)
+{
+    return hpf_restore(HPF_MAPPING_NUMBERS(m), saved, saved_words, storage, storage_words);
 }
 
 static inline hpf_steps hpf_section_steps_of(hpf_mapping m, hpf_triplet t)

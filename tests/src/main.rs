@@ -5,6 +5,10 @@
 mod answers;
 mod bound_edges;
 mod bounds_as_offset;
+mod checkpoint_answers;
+mod checkpoint_comparison;
+mod checkpoint_enumeration;
+mod checkpoint_library;
 mod checks_by_hand;
 mod comparison;
 mod counting;
@@ -14,11 +18,13 @@ mod faults;
 mod fill_chains;
 mod generator;
 mod guarded_list;
+mod lent;
 mod library;
 mod memory;
 mod processor_list;
 mod questions;
 mod random_bounds;
+mod random_checkpoints;
 mod random_mappings;
 mod random_sections;
 mod random_transfers;
@@ -30,10 +36,12 @@ mod section_search;
 mod sections_by_hand;
 mod sheets;
 mod small_bounds;
+mod small_checkpoints;
 mod small_mappings;
 mod small_sections;
 mod small_transfers;
 mod special_bounds;
+mod special_checkpoints;
 mod special_numbers;
 mod special_sections;
 mod special_transfers;
@@ -50,7 +58,7 @@ use comparison::{Comparison, Difference};
 /// Compares one kind of calls, and says in words which.
 type Group = fn(&mut Comparison) -> Result<String, Difference>;
 
-const CALLS: [Group; 30] = [
+const CALLS: [Group; 37] = [
     checks_by_hand::compare_limits,
     checks_by_hand::compare_bounds,
     small_mappings::compare_countings,
@@ -81,6 +89,13 @@ const CALLS: [Group; 30] = [
     special_transfers::compare_exchanges,
     random_transfers::compare_short_assignments,
     random_transfers::compare_long_assignments,
+    small_checkpoints::compare_mappings,
+    small_checkpoints::compare_moves,
+    special_checkpoints::compare_combinations,
+    special_checkpoints::compare_exchanges,
+    special_checkpoints::compare_long_arrays,
+    random_checkpoints::compare_short_arrays,
+    random_checkpoints::compare_long_arrays,
 ];
 
 fn main() -> ExitCode {

@@ -144,6 +144,14 @@ fn of_ends(transfer: &Transfer) -> i32 {
     ])
 }
 
+/// Questions 1 to 5, with 15, and 13 of two lists of so many words.
+pub fn of_copy(m: &Mapping, words: [usize; 2]) -> i32 {
+    match of_mapping(m) {
+        0 => first_no(&[(13, words.iter().all(|&words| words >= m.size as usize))]),
+        refusal => refusal,
+    }
+}
+
 /// The declared indices, La to La + n - 1.
 fn indices(m: &Mapping) -> Range<i128> {
     let [lower, size] = [m.array_lower, m.size].map(i128::from);

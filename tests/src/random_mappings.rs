@@ -58,6 +58,20 @@ pub fn random_mapping(generator: &mut Generator) -> Mapping {
     with_random_bounds(generator, &Mapping::of(numbers.map(|number| number as i64)))
 }
 
+/// The same with so many elements, 1 or more.
+pub fn random_mapping_of(generator: &mut Generator, size: u64) -> Mapping {
+    let processors = generator.up_to(MOST_PROCESSORS);
+    let block = generator.up_to(LARGEST_BLOCK);
+    let longest = (LARGEST - 1) / (size - 1).max(1);
+    let stride = random_stride(generator, block).min(longest);
+    let span = (size - 1) * stride;
+    let first_cell = generator.up_to(LARGEST - span) - 1;
+    let last_cell = first_cell + span;
+    let cells = last_cell + generator.up_to(LARGEST - last_cell);
+    let numbers = [cells, processors, block, stride, first_cell, size, 0, 0];
+    with_random_bounds(generator, &Mapping::of(numbers.map(|number| number as i64)))
+}
+
 /// Small, of any size, or whole blocks, which leave some processors without elements.
 fn random_stride(generator: &mut Generator, block: u64) -> u64 {
     match generator.below(3) {

@@ -7,7 +7,7 @@ use crate::enumeration::{enumerate, Array, Enumeration};
 use crate::library::{Counted, Found, Mapping, Owned};
 use crate::small_bounds::{self, with_bounds};
 
-const MOST_CELLS: u64 = 40;
+pub const MOST_CELLS: u64 = 40;
 const MOST_PROCESSORS: u64 = 5;
 const LARGEST_BLOCK: u64 = 6;
 const LARGEST_STRIDE: u64 = 5;
@@ -77,7 +77,7 @@ pub fn compare_countings(comparison: &mut Comparison) -> Result<String, Differen
 
 /// For all other numbers the array with the most elements. Smaller arrays and
 /// templates have its first elements, at the same places.
-fn largest_arrays() -> Vec<Array> {
+pub fn largest_arrays() -> Vec<Array> {
     let mut arrays = Vec::new();
     for processors in 1..=MOST_PROCESSORS {
         for block in 1..=LARGEST_BLOCK {
@@ -102,12 +102,12 @@ fn largest_arrays() -> Vec<Array> {
 }
 
 /// How many elements fit on the template.
-fn most_elements(cells: u64, array: &Array) -> u64 {
+pub fn most_elements(cells: u64, array: &Array) -> u64 {
     let on_template = |&index: &i64| array.cell(index) < cells;
     (array.array_lower..).take_while(on_template).count() as u64
 }
 
-fn mapping(cells: u64, array: &Array, size: u64) -> Mapping {
+pub fn mapping(cells: u64, array: &Array, size: u64) -> Mapping {
     Mapping {
         cells: cells as i64,
         processors: array.processors as i64,

@@ -10,7 +10,7 @@ const LARGEST: i64 = 2_147_483_647;
 /// Some leave the first element on cell 0, with offset and bounds at their ends: with
 /// stride 1 the offset LARGEST and the bounds -LARGEST 0, or -LARGEST and LARGEST - 18
 /// -18, or -LARGEST and 0 -LARGEST; with stride 5 LARGEST and -19 LARGEST - 95.
-const MAPPINGS: [&[i64]; 8] = [
+pub const MAPPINGS: [&[i64]; 8] = [
     &[0, 96, LARGEST],
     &[3],
     &[4],

@@ -12,7 +12,7 @@ pub type Call<const N: usize> = fn(&mut Comparison, [i64; N]) -> Outcome;
 
 /// For each number of a mapping its limits, what lies past them, and a number
 /// within: together 96 3 4 5 2 19 0 0, in which 20 elements would not fit.
-const MAPPINGS: [&[i64]; 8] = [
+pub const MAPPINGS: [&[i64]; 8] = [
     &[i64::MIN, 0, 1, 96, LARGEST, LARGEST + 1, i64::MAX],
     &[i64::MIN, 0, 1, 3, 1_024, 1_025],
     &[0, 1, 4, 65_536, 65_537, i64::MAX],
@@ -40,7 +40,7 @@ const PROCESSORS_BACK: &[i64] = &[-1, 0, 2, 3, 1_023, 1_024];
 const ADDRESSES: &[i64] = &[i64::MIN, -1, 0, 5, 6, 7, LARGEST, i64::MAX];
 
 /// Mappings in which two numbers at a time are exchanged for others.
-const LAWFUL: [[i64; 8]; 7] = [
+pub const LAWFUL: [[i64; 8]; 7] = [
     [96, 3, 4, 5, 2, 19, 0, 0],
     [LARGEST, 1_024, 65_536, 1, 0, LARGEST, 0, 0],
     [LARGEST, 1, 1, 1, LARGEST - 1, 1, 0, 0],

@@ -2,8 +2,7 @@
 //! and lists.
 #![allow(unsafe_code)]
 
-use std::ptr;
-
+use crate::lent::Lent;
 use crate::library::Mapping;
 use crate::section_library::Triplet;
 
@@ -75,19 +74,6 @@ extern "C" {
         received: *mut i32,
         received_entries: usize,
     ) -> Transferred;
-}
-
-/// A list as the call takes it. One without entries is lent as null.
-struct Lent(*mut i32, usize);
-
-impl Lent {
-    fn of(list: &mut [i32]) -> Lent {
-        if list.is_empty() {
-            Lent(ptr::null_mut(), 0)
-        } else {
-            Lent(list.as_mut_ptr(), list.len())
-        }
-    }
 }
 
 /// The lists are those of positions, sender's addresses and receiver's addresses.

@@ -1,27 +1,29 @@
 -- Every number of an answer fits its field of the C header: those of a mapping by model's `AnswerLaws`, the others here.
 use Prim.Native.Nat.{ℕ, _≤_}
-use mathlib.Core.Path.{_≡_, refl, sym, subst, _∙_}
+use mathlib.Core.Path.{_≡_, refl, sym, subst}
 use mathlib.Core.Bool.{Bool, true, false, cond}
 use mathlib.Core.List.{_++_}
 use native.Mathlib.Nat.{le-refl}
 use native.Mathlib.Omega.{arith}
 use lib.Dec.{eqb}
 use lib.IntN.{ℤ, pos}
-use borrow.Author.Tests.{eqb-true, eqb-false}
+use borrow.Author.Tests.{eqb-true}
 use Rattle.numbers.proofs.SearchLaws.{tally-le, head-le}
 use Rattle.numbers.proofs.Signed.{size-neg}
 use Rattle.model.specs.declared.Section.{Section}
 use Rattle.model.specs.declared.Step.{Step}
 use Rattle.model.specs.declared.Steps.{Steps}
 use Rattle.model.specs.declared.Steps.the-variants.{NoStep, OneStep, TwoSteps}
-use Rattle.model.specs.Ownership.{nat}
+use Rattle.model.specs.Ownership.{nat, layoutOf}
 use Rattle.model.specs.Sections.{count, ownsAt, places, firstPlace}
 use Rattle.model.specs.Steps.{stepsOf}
 use Rattle.model.specs.Filling.{answer}
-use Rattle.model.specs.Questions.{firstNo, ofSection, ofProcessor}
+use Rattle.model.specs.Questions.{firstNo, ofMapping, ofSection, ofProcessor}
 use Rattle.model.specs.Calls.{stepsReport, forward, backward, sectionSteps, firstPlaceAt, FillCall, ofFill, requestOf, fill}
 use Rattle.model.specs.Transfers.{TransferCall, isEntry, pairPlaces, ofTransfer, entriesOf, transfers}
-use Rattle.model.proofs.QuestionLaws.{both-yes, stops}
+use Rattle.model.specs.Checkpoints.{CopyCall, wordsIn, ofCopy, copying}
+use Rattle.model.proofs.QuestionLaws.{both-yes, front-passed}
+use Rattle.model.proofs.AcceptedLaws.{mapped}
 use Rattle.model.proofs.AnsweredLaws.{refusal-le, answered}
 use Rattle.model.proofs.FillCalls.{fill-cases}
 use Rattle.model.proofs.StepSizes.{Low, AllLow, steps-low}
@@ -30,8 +32,7 @@ use Rattle.model.proofs.TransferLaws.{passing-count}
 use Rattle.section.specs.Strides.{stridedOf}
 use Rattle.section.proofs.StridedSections.{bounded}
 use Rattle.fill.specs.Answers.{reportOf}
-use Rattle.transfer.proofs.CallAnswers.{lacks, never}
-use Rattle.hpfaddr.specs.Sizes.{In32, In64, StepFits, StepsFit, PlacedFits, FilledFits, TransferredFits}
+use Rattle.hpfaddr.specs.Sizes.{In32, In64, StepFits, StepsFit, PlacedFits, FilledFits, TransferredFits, CopiedFits}
 
 -- an answer that is the definition's is as small as the definition's
 pub with-size : {A : Type 0} (P : A → Type 0) {a b : A} → a ≡ b → P b → (a ≡ b) × P a
@@ -97,24 +98,27 @@ entries-small c ok =
     let n = count (c .left) in
     omega (arith, passing-count f n, tally-le f n, count-small (c .left) ok)
 
--- a number that is none of the left section's refusals is the call's only if the left section passed
-left-passed : (c : TransferCall) (k : ℕ) → lacks k (ofSection (c .left)) ≡ true → firstNo (ofTransfer c) ≡ k → firstNo (ofSection (c .left)) ≡ 0
-left-passed c k h e = go (eqb (firstNo (ofSection (c .left))) 0) refl
-  where
-    go : (b : Bool) → eqb (firstNo (ofSection (c .left))) 0 ≡ b → firstNo (ofSection (c .left)) ≡ 0
-    go true p = eqb-true _ 0 p
-    go false p =
-        let is-k : firstNo (ofSection (c .left)) ≡ k = sym (stops (ofSection (c .left)) _ (eqb-false _ 0 p)) ∙ e in
-        is-k ∙ never k (ofSection (c .left)) h is-k
-
 -- so the number of entries, which only 0 and 13 report, is small
 pub transfers-small : (c : TransferCall) → TransferredFits (transfers c)
 unfolding transfers
 transfers-small c =
     answered TransferredFits (ofTransfer c) refl _ _
-    (λ none. (omega arith, entries-small c (left-passed c 0 refl none), omega arith))
+    (λ none. (omega arith, entries-small c (front-passed 0 (ofSection (c .left)) _ refl none), omega arith))
     (λ low. (omega arith, omega arith, needed (eqb (firstNo (ofTransfer c)) 13) refl))
   where
     needed : (b : Bool) → eqb (firstNo (ofTransfer c)) 13 ≡ b → In32 (cond b (entriesOf c) 0)
-    needed true p = entries-small c (left-passed c 13 refl (eqb-true _ 13 p))
+    needed true p = entries-small c (front-passed 13 (ofSection (c .left)) _ refl (eqb-true _ 13 p))
+    needed false p = omega arith
+
+-- ---- checkpoints
+
+-- the words needed, which only 13 reports, are those of a mapping that passed
+pub copying-small : (c : CopyCall) → CopiedFits (copying c)
+unfolding copying layoutOf
+copying-small c =
+    answered CopiedFits (ofCopy c) refl _ _ (λ none. omega arith) (λ low. (omega arith, needed (eqb (firstNo (ofCopy c)) 13) refl))
+  where
+    needed : (b : Bool) → eqb (firstNo (ofCopy c)) 13 ≡ b → In32 (cond b (wordsIn (c .mapping)) 0)
+    needed true p =
+        omega (arith, mapped (c .mapping) (front-passed 13 (ofMapping (c .mapping)) _ refl (eqb-true _ 13 p)) .size-high)
     needed false p = omega arith

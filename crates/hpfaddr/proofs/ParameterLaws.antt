@@ -1,4 +1,4 @@
--- The mapping, the section, the fill and the transfer that a C function's numbers make, read off the parameters.
+-- The mapping, the section, the fill, the transfer and the copy that a C function's numbers make, read off the parameters.
 use Prim.Native.Nat.{ℕ}
 use mathlib.Core.Path.{_≡_, subst, _∙_}
 use mathlib.Core.List.{List}
@@ -11,6 +11,7 @@ use Rattle.model.specs.declared.Mapping.{Mapping}
 use Rattle.model.specs.declared.Section.{Section}
 use Rattle.model.specs.ByteFills.{ByteFill}
 use Rattle.model.specs.Transfers.{Lists}
+use Rattle.model.specs.Checkpoints.{copyOf}
 use Rattle.mapping.specs.Answers.{mappingOf}
 use Rattle.fill.specs.declared.Filled.{Filled}
 use Rattle.fill.specs.Answers.{FilledBytes}
@@ -47,3 +48,7 @@ fill-read q t z fq ft fz e bs after r =
 pub call-read : {x y x′ y′ : Section} (q m : ℤ) → SFits w64 q → SFits w64 m → x′ ≡ x → y′ ≡ y → (l : Lists)
     → callOf x′ y′ (back w64 q) (back w64 m) l ≡ callOf x y q m l
 call-read q m fq fm e d l = λ i. callOf (e i) (d i) (toZ-ofZ w64 q fq i) (toZ-ofZ w64 m fm i) l
+
+-- a checkpoint or a restore of such a mapping
+pub copy-read : {m m′ : Mapping} → m′ ≡ m → (s l : List ℕ) → copyOf m′ s l ≡ copyOf m s l
+copy-read e s l = λ i. copyOf (e i) s l

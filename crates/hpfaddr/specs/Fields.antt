@@ -7,6 +7,7 @@ use Rattle.model.specs.declared.Section.{Section}
 use Rattle.model.specs.Calls.{OwnershipAnswer, GoingBackAnswer, LocalCountAnswer, SectionStepsAnswer, PlaceAnswer, fill}
 use Rattle.model.specs.ByteFills.{ByteFill, inWords, bytesAfter}
 use Rattle.model.specs.Transfers.{Lists, TransferCall, TransferAnswer, transfers, listsAfter}
+use Rattle.model.specs.Checkpoints.{CopyCall, CopyAnswer, copying, saved, loaded}
 use Rattle.mapping.specs.Answers.{mappingOf}
 use Rattle.section.specs.Strides.{tripletOf}
 use Rattle.fill.specs.Answers.{FillReport, reportOf}
@@ -17,6 +18,7 @@ use Rattle.hpfaddr.specs.declared.sections.HpfSteps.{HpfSteps}
 use Rattle.hpfaddr.specs.declared.sections.HpfPlaced.{HpfPlaced}
 use Rattle.hpfaddr.specs.declared.sections.HpfFilled.{HpfFilled}
 use Rattle.hpfaddr.specs.declared.assignment.HpfTransferred.{HpfTransferred}
+use Rattle.hpfaddr.specs.declared.checkpoints.HpfCopied.{HpfCopied}
 
 abbrev pub ownedFields : HpfOwned → OwnershipAnswer
 ownedFields r = record { refusal = r .refusal; processor = r .processor; address = r .address }
@@ -58,3 +60,13 @@ transferredFields r = record { refusal = r .refusal; entries = r .entries; neede
 -- a transfer returns what the definition says, and leaves the lists that it says
 abbrev pub TransferredFields : TransferCall → Lists → HpfTransferred → Type 0
 TransferredFields c after r = (transferredFields r ≡ transfers c) × (after ≡ listsAfter c)
+
+abbrev pub copiedFields : HpfCopied → CopyAnswer
+copiedFields r = record { refusal = r .refusal; needed = r .needed }
+
+-- a checkpoint and a restore return what the definition says, leave the list that was read, and write the words that it says
+abbrev pub CheckpointFields : CopyCall → List ℕ → List ℕ → HpfCopied → Type 0
+CheckpointFields c read written r = (copiedFields r ≡ copying c) × (read ≡ c .read) × (written ≡ saved c)
+
+abbrev pub RestoreFields : CopyCall → List ℕ → List ℕ → HpfCopied → Type 0
+RestoreFields c read written r = (copiedFields r ≡ copying c) × (read ≡ c .read) × (written ≡ loaded c)

@@ -4,6 +4,7 @@ use Prim.Native.Nat.{ℕ, _^_, _≤_, _<_}
 use lib.IntN.{ℤ, natAbs}
 use Rattle.model.specs.Calls.{OwnershipAnswer, GoingBackAnswer, LocalCountAnswer, StepReport, SectionStepsAnswer, PlaceAnswer}
 use Rattle.model.specs.Transfers.{TransferAnswer}
+use Rattle.model.specs.Checkpoints.{CopyAnswer}
 use Rattle.fill.specs.Answers.{FillReport}
 
 -- a number from 0 on in a field of 32 bits, and in one of 64
@@ -44,3 +45,6 @@ FilledFits a = In32 (a .refusal) × In32 (a .entries) × In32 (a .tries) × In32
 
 abbrev pub TransferredFits : TransferAnswer → Type 0
 TransferredFits a = In32 (a .refusal) × In32 (a .entries) × In32 (a .needed)
+
+abbrev pub CopiedFits : CopyAnswer → Type 0
+CopiedFits a = In32 (a .refusal) × In32 (a .needed)

@@ -1,6 +1,7 @@
 // The C functions of the library, for a Fortran runtime to link: numbers in, a struct of numbers
 // out by value, its first field the refusal. Here stand those of a mapping, in sections.rt those of
-// sections and fills, in assignment.rt that of transfers; include/ and fortran/ declare them.
+// sections and fills, in assignment.rt that of transfers, in checkpoints.rt those of checkpoints;
+// include/ and fortran/ declare them.
 ghost use mathlib.Core.Path.{_≡_};
 ghost use Rattle.model.specs.Calls.{ownership, goingBack, localCount};
 ghost use Rattle.mapping.specs.Answers.{mappingOf};
@@ -12,6 +13,7 @@ use mapping::Owned;
 use parameters::mapping_of;
 
 pub mod assignment;
+pub mod checkpoints;
 mod parameters;
 pub mod sections;
 

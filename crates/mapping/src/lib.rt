@@ -50,7 +50,7 @@ pub fn ownership(m: Mapping, index: i64) -> Owned
 }
 
 // How many elements processor q has. An array of none has no cell to count from.
-fn elements_on(l: Layout, q: u64) -> u64
+pub fn elements_on(l: Layout, q: u64) -> u64
     requires { ⌜ Dealt l q ⌝ }
     ensures { λ r. ⌜ r ≡ held (ownerOf l) (l .size) q ⌝ }
 {

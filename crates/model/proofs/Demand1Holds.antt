@@ -20,6 +20,7 @@ use Rattle.model.specs.Demand1.{Answers, Demand1, ByTheRule, NotFilled, 
 use Rattle.model.proofs.AnsweredLaws.{either-of}
 use Rattle.model.proofs.FillCalls.{fill-answers}
 use Rattle.model.proofs.ByteFillsHold.{outcome-is}
+use Rattle.model.proofs.CheckpointsHold.{save-answers, load-answers}
 
 no-refusal : (n : ℕ) (s : Steps) → stepsReport n s .refusal ≡ 0
 no-refusal n NoStep = refl
@@ -96,5 +97,7 @@ demand1 = record {
   of-fill = fill-answers;
   of-byte-fill = λ c. rw (outcome-is c) (byte-fill-answers c);
   of-transfers = transfer-answers;
+  of-save = save-answers;
+  of-load = load-answers;
   of-sheet = sheet-answers;
 }

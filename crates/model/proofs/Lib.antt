@@ -35,6 +35,10 @@ pub mod ByteStores
 pub mod ByteFillsHold
 pub mod FillBounds
 pub mod Demand3Holds
+-- checkpoints
+pub mod StorageLaws
+pub mod CopyLaws
+pub mod CheckpointsHold
 -- every call
 pub mod Demand1Holds
 -- declared bounds

@@ -14,6 +14,7 @@ use Rattle.model.proofs.Demand1Holds.{demand1}
 use Rattle.model.proofs.Demand2Holds.{demand2}
 use Rattle.model.proofs.Demand3Holds.{demand3, demand3-of-bytes}
 use Rattle.model.proofs.TransferLaws.{assigned}
+use Rattle.model.proofs.CheckpointsHold.{checkpoints}
 use Rattle.model.proofs.ShiftedHolds.{shifted}
 use Rattle.model.proofs.Document01Holds.{as-document-01}
 use Rattle.model.proofs.StarredHold.{starred}
@@ -39,5 +40,6 @@ promises = record {
   byte-fills = demand3-of-bytes;
   bytes-stay = bytes-stay;
   assignment = assigned;
+  checkpoints = checkpoints;
   starred = starred;
 }

@@ -1,14 +1,14 @@
 -- Lists of questions, and numbers that a question found in a range.
 use Prim.Native.Nat.{ℕ, _≤_, _<_, zero-le}
 use mathlib.Core.Path.{_≡_, refl, sym, _∙_}
-use mathlib.Core.Bool.{Bool, true, false, _&&_, true≢false}
+use mathlib.Core.Bool.{Bool, true, false, not, _&&_, true≢false}
 use mathlib.Core.List.{List, [], _∷_, _++_}
 use native.Mathlib.Nat.{not-suc-le-zero}
 use native.Mathlib.Omega.{arith}
 use lib.Dec.{leb, ltb, eqb}
 use lib.IntN.{ℤ, pos, negsuc, natAbs}
 use lib.Signed.{leZ}
-use borrow.Author.Tests.{ltb-true, leb-true, le-leb, lt-ltb, eqb-true, eqb-false}
+use borrow.Author.Tests.{ltb-true, leb-true, le-leb, lt-ltb, eqb-true, eqb-false, not-true}
 use Rattle.numbers.proofs.Tests.{both-true}
 use Rattle.model.specs.Ownership.{nat}
 use Rattle.model.specs.Questions.{Question, firstNo, AllYes, between, isBelow, most, least}
@@ -52,6 +52,30 @@ stops (x ∷ xs) ys f = go (stops xs ys) (x .holds) refl
         → firstNo ((x ∷ xs) ++ ys) ≡ firstNo (x ∷ xs)
     go ih true p = rw p (ih (λ e. f (rw p e)))
     go ih false p = rw p
+
+-- a number that no question of a list has is not its refusal
+abbrev pub lacks : ℕ → List Question → Bool
+lacks k [] = true
+lacks k (q ∷ qs) = not (eqb (q .number) k) && lacks k qs
+
+pub never : (k : ℕ) (qs : List Question) → lacks k qs ≡ true → firstNo qs ≡ k → k ≡ 0
+unfolding firstNo
+never k [] h e = sym e
+never k (q ∷ qs) h e = go (never k qs (both-true (not (eqb (q .number) k)) (lacks k qs) h .1)) (q .holds) refl
+  where
+    go : (firstNo qs ≡ k → k ≡ 0) → (b : Bool) → q .holds ≡ b → k ≡ 0
+    go ih true p = ih (rw p at e)
+    go ih false p = absurd (eqb-false (q .number) k (not-true (eqb (q .number) k) (both-true (not (eqb (q .number) k)) (lacks k qs) h .0)) (rw p at e))
+
+-- so where it is the first no of more questions, the list passed
+pub front-passed : (k : ℕ) (xs ys : List Question) → lacks k xs ≡ true → firstNo (xs ++ ys) ≡ k → firstNo xs ≡ 0
+front-passed k xs ys h e = go (eqb (firstNo xs) 0) refl
+  where
+    go : (b : Bool) → eqb (firstNo xs) 0 ≡ b → firstNo xs ≡ 0
+    go true p = eqb-true (firstNo xs) 0 p
+    go false p =
+        let is-k : firstNo xs ≡ k = sym (stops xs ys (eqb-false (firstNo xs) 0 p)) ∙ e in
+        is-k ∙ never k xs h is-k
 
 pub both-yes : (xs ys : List Question) → numbered xs ≡ true → firstNo (xs ++ ys) ≡ 0 → (firstNo xs ≡ 0) × (firstNo ys ≡ 0)
 both-yes xs ys n e = go (eqb (firstNo xs) 0) refl

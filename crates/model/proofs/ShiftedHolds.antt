@@ -21,8 +21,10 @@ use Rattle.model.specs.Calls.{ownership, GoingBackAnswer, goingBack, loc
 use Rattle.model.specs.Calls.{FillCall, ofFill, requestOf, fill}
 use Rattle.model.specs.ByteFills.{ByteFill, inWords, storeEntries, bytesAfter, outcomeOf}
 use Rattle.model.specs.Transfers.{TransferCall, isEntry, pairPlaces, placesOf, ofCounts, ofRoom, entriesOf, ofTransfer, transfers, withEntries, listsAfter}
-use Rattle.model.specs.Shifted.{fromZero, sectionFromZero, fillFromZero, byteFillFromZero, transferFromZero, shiftedBy, BothPass, BothIn}
-use Rattle.model.specs.Shifted.{Shifted}
+use Rattle.model.specs.Storages.{storagePlace, copied}
+use Rattle.model.specs.Checkpoints.{CopyCall, wordsIn, ofWords, ofCopy, copying, placeOf, afterCopy, saved, loaded}
+use Rattle.model.specs.Shifted.{fromZero, sectionFromZero, fillFromZero, byteFillFromZero, transferFromZero, copyFromZero, shiftedBy}
+use Rattle.model.specs.Shifted.{BothPass, BothIn, Shifted}
 use Rattle.model.proofs.BoundLaws.{swapped, exchanged, index-from}
 use Rattle.model.proofs.QuestionLaws.{all-yes, asks-on}
 use Rattle.model.proofs.ZeroBounds.{less-zero, first-cell, passes}
@@ -248,6 +250,33 @@ module _ (c : TransferCall) (l : BothIn (c .left)) (r : BothIn (c .right)) where
         (withEntries (places-alike i) (λ t. address-alike (c .right) t i) (λ t. address-alike (c .left) t i) (c .lists)) (c .lists),
   )
 
+-- ---- save and load
+
+module _ (c : CopyCall) (both : BothPass (c .mapping)) where
+  asked-copy : firstNo (ofCopy c) ≡ firstNo (ofCopy (copyFromZero c))
+  asked-copy =
+      let rest = ofWords (wordsIn (c .mapping)) (c .read) (c .written) in
+      asked-m (c .mapping) both rest ∙ sym (asked-z (c .mapping) both rest)
+
+  copying-alike : copying c ≡ copying (copyFromZero c)
+  unfolding copying
+  copying-alike = λ i. cond (eqb (asked-copy i) 0) (record { refusal = 0; needed = 0 })
+      (record { refusal = asked-copy i; needed = cond (eqb (asked-copy i) 13) (wordsIn (c .mapping)) 0 })
+
+  place-alike : placeOf (c .mapping) ≡ placeOf (fromZero (c .mapping))
+  place-alike = λ i. storagePlace (ownerOf (layout-alike (c .mapping) i)) (wordsIn (c .mapping))
+
+  copied-alike : (from to from′ to′ : ℕ → ℕ) → from ≡ from′ → to ≡ to′ → afterCopy from to c ≡ afterCopy from′ to′ (copyFromZero c)
+  unfolding afterCopy
+  copied-alike from to from′ to′ f t = λ i.
+      cond (eqb (asked-copy i) 0) (copied (f i) (t i) (wordsIn (c .mapping)) (c .read) (c .written)) (c .written)
+
+  save-alike : (copying c ≡ copying (copyFromZero c)) × (saved c ≡ saved (copyFromZero c))
+  save-alike = (copying-alike, copied-alike _ _ _ _ place-alike refl)
+
+  load-alike : (copying c ≡ copying (copyFromZero c)) × (loaded c ≡ loaded (copyFromZero c))
+  load-alike = (copying-alike, copied-alike _ _ _ _ refl place-alike)
+
 pub shifted : Shifted
 shifted = record {
   passes = passes;
@@ -259,4 +288,6 @@ shifted = record {
   of-fill = fill-alike;
   of-byte-fill = byte-fill-alike;
   of-transfers = transfers-alike;
+  of-save = save-alike;
+  of-load = load-alike;
 }

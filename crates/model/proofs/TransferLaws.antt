@@ -3,18 +3,18 @@
 use Prim.Native.Nat.{ℕ, zero, suc, _+_, _<_, zero-le}
 use mathlib.Core.Path.{_≡_, refl, sym, ap, _∙_}
 use mathlib.Core.Bool.{Bool, true, false, cond}
-use native.Mathlib.Nat.{zero-add, eq-or-lt-of-le, le-of-suc-le-suc, not-suc-le-zero}
-use mathlib.Core.Logic.{_⊎_, inl, inr}
+use native.Mathlib.Nat.{zero-add}
 use native.Mathlib.Omega.{arith}
 use lib.ListN.{length, getD}
-use Rattle.numbers.specs.Search.{passing, tally}
+use Rattle.numbers.specs.Search.{passing, tally, sumBelow}
 use Rattle.numbers.proofs.Tests.{both-true}
 use Rattle.numbers.proofs.SearchLaws.{tally-none, tally-next, listed, found, passing-rises, passing-length}
+use Rattle.numbers.proofs.RangeSums.{sum-same, sum-add, sum-zero, sum-one}
 use Rattle.model.specs.declared.Section.{Section}
 use Rattle.model.specs.Ownership.{ownerOf}
 use Rattle.model.specs.Sections.{layout, count, index, ownsAt}
 use Rattle.model.specs.Questions.{firstNo, ofSection}
-use Rattle.model.specs.Transfers.{isEntry, pairPlaces, InPair, InOnePair, sumBelow, entriesInAll, Assigned}
+use Rattle.model.specs.Transfers.{isEntry, pairPlaces, InPair, InOnePair, entriesInAll, Assigned}
 use Rattle.model.proofs.AcceptedLaws.{accepted}
 use Rattle.model.proofs.Demand2Holds.{owner-lt}
 use Rattle.model.proofs.AddressLaws.{owns-of, of-owns}
@@ -22,33 +22,6 @@ use Rattle.model.proofs.AddressLaws.{owns-of, of-owns}
 -- as many stand in the list as are counted
 pub passing-count : (f : ℕ → Bool) (n : ℕ) → length (passing f 0 n) ≡ tally f n
 passing-count f n = omega (arith, passing-length f n 0, tally-none f, ap (tally f) (zero-add n))
-
--- ---- sums
-
-sum-same : (n : ℕ) (f g : ℕ → ℕ) → ((i : ℕ) → i < n → f i ≡ g i) → sumBelow n f ≡ sumBelow n g
-unfolding sumBelow
-sum-same zero f g h = refl
-sum-same (suc n) f g h = omega (arith, sum-same n f g (λ i l. h i (omega arith)), h n (omega arith))
-
-sum-add : (n : ℕ) (f g : ℕ → ℕ) → sumBelow n (λ i. f i + g i) ≡ sumBelow n f + sumBelow n g
-unfolding sumBelow
-sum-add zero f g = refl
-sum-add (suc n) f g = omega (arith, sum-add n f g)
-
-sum-zero : (n : ℕ) → sumBelow n (λ i. 0) ≡ 0
-unfolding sumBelow
-sum-zero zero = refl
-sum-zero (suc n) = omega (arith, sum-zero n)
-
--- what stands at one number only
-sum-one : (n a : ℕ) (f : ℕ → ℕ) → a < n → ((i : ℕ) → (i ≡ a → ⊥) → f i ≡ 0) → sumBelow n f ≡ f a
-unfolding sumBelow
-sum-one zero a f h z = absurd (not-suc-le-zero h)
-sum-one (suc n) a f h z = go (eq-or-lt-of-le (le-of-suc-le-suc h)) (λ l. sum-one n a f l z)
-  where
-    go : (a ≡ n) ⊎ (a < n) → (a < n → sumBelow n f ≡ f a) → sumBelow n f + f n ≡ f a
-    go (inl e) ih = omega (arith, ap f e, sum-same n f (λ i. 0) (λ i l. z i (λ p. omega arith)), sum-zero n)
-    go (inr l) ih = omega (arith, ih l, z n (λ p. omega arith))
 
 -- ---- a position in its pair
 

@@ -13,8 +13,8 @@ use Rattle.model.specs.declared.Mapping.{Mapping}
 use Rattle.model.specs.declared.Layout.{Layout}
 use Rattle.model.specs.Ownership.{nat, cellUnder, lastIndex, lastCell, layoutOf}
 use Rattle.model.specs.Sized.{Sized}
-use Rattle.model.specs.Questions.{between, most, least, boundsFit, cellsFit, ofMapping}
-use Rattle.model.specs.Shifted.{fromZero, Passes}
+use Rattle.model.specs.Questions.{between, most, least, boundsFit, cellsFit, ofMapping, Passes}
+use Rattle.model.specs.Shifted.{fromZero}
 use Rattle.model.proofs.BoundLaws.{last-declared, cell-further}
 use Rattle.model.proofs.QuestionLaws.{all-yes, none-no, Natural, between-is}
 use Rattle.model.proofs.AcceptedLaws.{CellsIn, whole-mapping, cells-fit, mapped}

@@ -1,12 +1,12 @@
 -- Demand 1 as a statement, a field for each call: "the answer to any call, on whatever numbers, lists or sheet, is the full
 -- result or the first refusal number that applies. A refusal carries only what its entry names and writes nothing in a lent
 -- list." That every call ends is what the prover asks of each function.
-use Prim.Native.Nat.{ℕ}
+use Prim.Native.Nat.{ℕ, _<_}
 use mathlib.Core.Path.{_≡_}
 use mathlib.Core.Bool.{Bool, true, false}
 use mathlib.Core.List.{List, [], _∷_, _++_, map}
 use lib.IntN.{ℤ, pos}
-use lib.ListN.{length, take, drop}
+use lib.ListN.{length, getD, take, drop}
 use Rattle.model.specs.declared.Mapping.{Mapping}
 use Rattle.model.specs.declared.Section.{Section}
 use Rattle.model.specs.Ownership.{nat, fromLower, declaredIndex, layoutOf, ownerOf, rank, held, backTo}
@@ -18,6 +18,7 @@ use Rattle.model.specs.Calls.{ownership, goingBack, localCount, SectionS
 use Rattle.model.specs.Calls.{FillCall, ofFill, walkOf, fill}
 use Rattle.model.specs.ByteFills.{ByteFill, inWords, storeEntries, bytesAfter, outcomeOf}
 use Rattle.model.specs.Transfers.{TransferCall, TransferAnswer, placesOf, ofTransfer, entriesOf, transfers, listsAfter}
+use Rattle.model.specs.Checkpoints.{CopyCall, CopyAnswer, wordsIn, ofCopy, copying, placeOf, inOrder, saved, loaded}
 use Rattle.model.specs.Sheets.{Sheet, IsPrint, Place, noSheet, Reads}
 
 -- ---- any call
@@ -65,6 +66,18 @@ NotListed c a =
     (a .entries ≡ 0) × (a .refusal ≡ 13 → a .needed ≡ entriesOf c) × ((a .refusal ≡ 13 → ⊥) → a .needed ≡ 0)
     × (listsAfter c ≡ c .lists)
 
+-- each element's word, copied from its place to its place; words beyond n stay
+abbrev pub WordsCopied : (ℕ → ℕ) → (ℕ → ℕ) → CopyCall → List ℕ → CopyAnswer → Type 0
+WordsCopied from to c after a =
+    let n : ℕ = wordsIn (c .mapping) in
+    (a .needed ≡ 0) × ((i : ℕ) → i < n → getD after (to i) 0 ≡ getD (c .read) (from i) 0)
+    × (drop n after ≡ drop n (c .written)) × (length after ≡ length (c .written))
+
+-- "a list that is too short meets 13 with n"
+abbrev pub NoneCopied : CopyCall → List ℕ → CopyAnswer → Type 0
+NoneCopied c after a =
+    (a .refusal ≡ 13 → a .needed ≡ wordsIn (c .mapping)) × ((a .refusal ≡ 13 → ⊥) → a .needed ≡ 0) × (after ≡ c .written)
+
 -- the answer to question 14: is s the print of a well-formed sheet?
 pub record Decides (s : List ℕ) (b : Bool) : Type 0 where
   pub yes : b ≡ true → (w : Sheet) × IsPrint w s
@@ -98,6 +111,10 @@ pub record Demand1 : Type 0 where
       (λ a. ByTheRule (inWords c) (a .filled) × (bytesAfter c ≡ storeEntries (c .bytes) 0 (take (a .filled .entries) (a .filled .list))))
       (λ a. NotFilled (inWords c) (a .filled) × (bytesAfter c ≡ c .bytes))
   pub of-transfers : (c : TransferCall) → Answers (transfers c) (λ a. a .refusal) (ofTransfer c) (Listed c) (NotListed c)
+  pub of-save : (c : CopyCall)
+      → Answers (copying c) (λ a. a .refusal) (ofCopy c) (WordsCopied (placeOf (c .mapping)) inOrder c (saved c)) (NoneCopied c (saved c))
+  pub of-load : (c : CopyCall)
+      → Answers (copying c) (λ a. a .refusal) (ofCopy c) (WordsCopied inOrder (placeOf (c .mapping)) c (loaded c)) (NoneCopied c (loaded c))
   -- 14 is the one question of a sheet, and its refusal has a place
   pub of-sheet : (s : List ℕ) (e n : ℕ) (w : Sheet) → Reads s e n w → (b : Bool) → Decides s b
       → Answers e (λ a. a) (ask 14 b ∷ []) (λ a. IsPrint w s × (n ≡ 0)) (λ a. Place IsPrint s n × (w ≡ noSheet))

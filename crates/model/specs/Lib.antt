@@ -8,6 +8,8 @@ pub mod Sized
 pub mod Calls
 pub mod ByteFills
 pub mod Transfers
+pub mod Storages
+pub mod Checkpoints
 pub mod Sheets
 pub mod Demand1
 pub mod Demand2

@@ -16,6 +16,7 @@ use Rattle.model.specs.Questions.{firstNo, ofSection}
 use Rattle.model.specs.Calls.{ownership, goingBack}
 use Rattle.model.specs.ByteFills.{ByteFill, bytesAfter, outcomeOf}
 use Rattle.model.specs.Transfers.{Assigned}
+use Rattle.model.specs.Checkpoints.{Checkpoints}
 use Rattle.model.specs.Demand1.{Demand1}
 use Rattle.model.specs.Demand2.{Demand2}
 use Rattle.model.specs.Demand3.{inWordLists, inByteLists, Demand3}
@@ -58,5 +59,7 @@ pub record Promises : Type 0 where
       (c : ByteFill) (m : ℕ) → 4 * outcomeOf c .filled .entries ≤ m → drop m (bytesAfter c) ≡ drop m (c .bytes)
   -- all pairs of an assignment
   pub assignment : (left right : Section) → Accepts left → Accepts right → Assigned left right
+  -- save and load
+  pub checkpoints : Checkpoints
   -- the starred cases
   pub starred : T (every table)

@@ -66,6 +66,10 @@ ofMapping m =
     ∷ ask 5 (cellsFit m)
     ∷ []
 
+-- a mapping is accepted if they are answered yes
+abbrev pub Passes : Mapping → Type 0
+Passes m = firstNo (ofMapping m) ≡ 0
+
 -- is z a declared index, from La to La + n − 1?
 unfoldable pub isIndex : Mapping → ℤ → Bool
 isIndex m z = between (m .lower) (lastIndex m) z

@@ -8,10 +8,11 @@ use lib.IntN.{ℤ, pos, _+ℤ_, _-ℤ_}
 use Rattle.model.specs.declared.Mapping.{Mapping}
 use Rattle.model.specs.declared.Section.{Section}
 use Rattle.model.specs.Ownership.{cellUnder, layoutOf}
-use Rattle.model.specs.Questions.{firstNo, inRange, ofMapping}
+use Rattle.model.specs.Questions.{inRange, Passes}
 use Rattle.model.specs.Calls.{ownership, GoingBackAnswer, goingBack, localCount, sectionSteps, firstPlaceAt, FillCall, fill}
 use Rattle.model.specs.ByteFills.{ByteFill, bytesAfter, outcomeOf}
 use Rattle.model.specs.Transfers.{TransferCall, transfers, listsAfter}
+use Rattle.model.specs.Checkpoints.{CopyCall, copyOf, copying, saved, loaded}
 
 -- bounds 0, and as offset the first element's cell, a·La + b − Lt
 abbrev pub fromZero : Mapping → Mapping
@@ -64,12 +65,12 @@ transferFromZero c = record {
   lists = c .lists;
 }
 
+abbrev pub copyFromZero : CopyCall → CopyCall
+copyFromZero c = copyOf (fromZero (c .mapping)) (c .read) (c .written)
+
 -- an index found, shifted by La; a refusal has none
 abbrev pub shiftedBy : ℤ → GoingBackAnswer → GoingBackAnswer
 shiftedBy lower r = record { refusal = r .refusal; index = cond (eqb (r .refusal) 0) (lower +ℤ r .index) (pos 0) }
-
-abbrev pub Passes : Mapping → Type 0
-Passes m = firstNo (ofMapping m) ≡ 0
 
 -- both mappings pass their questions. With elements the second follows from the first; without, its offset may be out of range.
 abbrev pub BothPass : Mapping → Type 0
@@ -91,3 +92,7 @@ pub record Shifted : Type 0 where
       → (outcomeOf c ≡ outcomeOf (byteFillFromZero c)) × (bytesAfter c ≡ bytesAfter (byteFillFromZero c))
   pub of-transfers : (c : TransferCall) → BothIn (c .left) → BothIn (c .right)
       → (transfers c ≡ transfers (transferFromZero c)) × (listsAfter c ≡ listsAfter (transferFromZero c))
+  pub of-save : (c : CopyCall) → BothPass (c .mapping)
+      → (copying c ≡ copying (copyFromZero c)) × (saved c ≡ saved (copyFromZero c))
+  pub of-load : (c : CopyCall) → BothPass (c .mapping)
+      → (copying c ≡ copying (copyFromZero c)) × (loaded c ≡ loaded (copyFromZero c))

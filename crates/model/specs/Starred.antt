@@ -18,6 +18,7 @@ use Rattle.model.specs.Filling.{got, paid, standing}
 use Rattle.model.specs.Questions.{firstNo, ofMapping, ofSection}
 use Rattle.model.specs.Calls.{ownership, goingBack, FillCall, fill, StepReport, SectionStepsAnswer, sectionSteps}
 use Rattle.model.specs.Transfers.{listsAfter}
+use Rattle.model.specs.Checkpoints.{copyOf, copying, saved, loaded}
 
 -- ---- equality, as a test
 
@@ -67,6 +68,10 @@ pub data Row : Type 0 where
   fills : Section → ℕ → ℕ → List ℕ → List ℕ → ℕ → ℕ → Row
   -- a transfer from a sender to a receiver, into lists of 4, leaves these positions, sender's and receiver's addresses
   transferred : Section → Section → ℕ → ℕ → List ℕ → List ℕ → List ℕ → Row
+  -- a save of a storage, into a list of so many words, has this refusal and this number needed and leaves this list; and a load of
+  -- words in index order likewise
+  saves : Mapping → List ℕ → ℕ → ℕ → ℕ → List ℕ → Row
+  loads : Mapping → List ℕ → ℕ → ℕ → ℕ → List ℕ → Row
 
 abbrev stepNumbers : StepReport → List ℤ
 stepNumbers r = pos (r .cells) ∷ pos (r .courses) ∷ r .column ∷ []
@@ -107,6 +112,12 @@ holds (transferred left right q m ts sent received) =
       lists = record { positions = none; sent = none; received = none };
     }) in
     sameList (x .positions) ts && sameList (x .sent) sent && sameList (x .received) received
+holds (saves m s room e n after) =
+    let c = copyOf m s (replicate room 77) in
+    sameList (copying c .refusal ∷ copying c .needed ∷ []) (e ∷ n ∷ []) && sameList (saved c) after
+holds (loads m w room e n after) =
+    let c = copyOf m w (replicate room 77) in
+    sameList (copying c .refusal ∷ copying c .needed ∷ []) (e ∷ n ∷ []) && sameList (loaded c) after
 
 abbrev pub every : List Row → Bool
 every [] = true
@@ -156,6 +167,10 @@ fromOne = bounded 200 3 4 2 (negsuc 1) 100 (pos 1) (pos 0)
 -- our own: A(-3:20) aligned with T(j), T(-5:26)
 abbrev fromBelow : Mapping
 fromBelow = bounded 32 3 4 1 (pos 0) 24 (negsuc 2) (negsuc 4)
+
+-- our own: 8 elements on cells 1, 4, .. 22 of 24, dealt to 3 processors by 4: elements 0 4, 1 2 5 6 and 3 7
+abbrev pictured : Mapping
+pictured = mapped 24 3 4 3 1 8
 
 abbrev ofSize : ℕ → ℤ → ℤ → ℤ → Section
 ofSize n l h s = on (mapped 12 3 2 1 0 n) l h s
@@ -232,4 +247,13 @@ table =
     ∷ transferred forward alignedDown 2 0 (0 ∷ 2 ∷ 9 ∷ 77 ∷ []) (10 ∷ 8 ∷ 3 ∷ 77 ∷ []) (0 ∷ 6 ∷ 23 ∷ 77 ∷ [])
     ∷ transferred alignedDown forward 0 2 (0 ∷ 2 ∷ 9 ∷ 77 ∷ []) (0 ∷ 6 ∷ 23 ∷ 77 ∷ []) (10 ∷ 8 ∷ 3 ∷ 77 ∷ [])
     ∷ transferred forward forward 1 1 (77 ∷ 77 ∷ 77 ∷ 77 ∷ []) (77 ∷ 77 ∷ 77 ∷ 77 ∷ []) (77 ∷ 77 ∷ 77 ∷ 77 ∷ [])
+    -- document 02, A3: the processors' words laid end to end, and in index order; a word beyond them stays
+    ∷ saves pictured (30 ∷ 34 ∷ 31 ∷ 32 ∷ 35 ∷ 36 ∷ 33 ∷ 37 ∷ []) 9 0 0 (30 ∷ 31 ∷ 32 ∷ 33 ∷ 34 ∷ 35 ∷ 36 ∷ 37 ∷ 77 ∷ [])
+    ∷ loads pictured (30 ∷ 31 ∷ 32 ∷ 33 ∷ 34 ∷ 35 ∷ 36 ∷ 37 ∷ []) 9 0 0 (30 ∷ 34 ∷ 31 ∷ 32 ∷ 35 ∷ 36 ∷ 33 ∷ 37 ∷ 77 ∷ [])
+    -- saved on one machine shape, where processors 1 and 3 have no element, and loaded on another, with bounds
+    ∷ saves (mapped 12 4 1 2 0 4) (40 ∷ 42 ∷ 41 ∷ 43 ∷ []) 4 0 0 (40 ∷ 41 ∷ 42 ∷ 43 ∷ [])
+    ∷ loads (bounded 12 2 1 1 (pos 0) 4 (pos 1) (pos 0)) (40 ∷ 41 ∷ 42 ∷ 43 ∷ []) 4 0 0 (41 ∷ 43 ∷ 40 ∷ 42 ∷ [])
+    -- either list too short by one
+    ∷ saves pictured (30 ∷ 34 ∷ 31 ∷ 32 ∷ 35 ∷ 36 ∷ 33 ∷ []) 8 13 8 (77 ∷ 77 ∷ 77 ∷ 77 ∷ 77 ∷ 77 ∷ 77 ∷ 77 ∷ [])
+    ∷ loads pictured (30 ∷ 31 ∷ 32 ∷ 33 ∷ 34 ∷ 35 ∷ 36 ∷ 37 ∷ []) 7 13 8 (77 ∷ 77 ∷ 77 ∷ 77 ∷ 77 ∷ 77 ∷ 77 ∷ [])
     ∷ []

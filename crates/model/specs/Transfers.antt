@@ -1,13 +1,13 @@
 -- Document 01, "Transfers": for left(section) = right(section), the entries of a pair of processors, in the order of document 02,
 -- A2; the questions of a call, and what it answers and writes. Definitions only.
-use Prim.Native.Nat.{ℕ, zero, suc, _+_, _<_}
+use Prim.Native.Nat.{ℕ, _<_}
 use mathlib.Core.Path.{_≡_}
 use mathlib.Core.Bool.{Bool, cond, _&&_}
 use mathlib.Core.List.{List, [], _∷_, _++_, map}
 use lib.Dec.{leb, eqb}
 use lib.IntN.{ℤ}
 use lib.ListN.{length, getD, drop}
-use Rattle.numbers.specs.Search.{passing}
+use Rattle.numbers.specs.Search.{passing, sumBelow}
 use Rattle.model.specs.declared.Section.{Section}
 use Rattle.model.specs.Ownership.{nat}
 use Rattle.model.specs.Sections.{layout, count, address, ownsAt}
@@ -112,11 +112,6 @@ pub record InOnePair (left right : Section) (t : ℕ) : Type 0 where
   pub entry : ℕ
   pub stands : InPair left right t sender receiver entry
   pub only : (q m i : ℕ) → InPair left right t q m i → (q ≡ sender) × (m ≡ receiver) × (i ≡ entry)
-
--- f 0 + .. + f (n - 1)
-unfoldable pub sumBelow : ℕ → (ℕ → ℕ) → ℕ
-sumBelow zero f = 0
-sumBelow (suc n) f = sumBelow n f + f n
 
 -- how many entries all pairs have
 unfoldable pub entriesInAll : Section → Section → ℕ

@@ -1,4 +1,4 @@
--- Counting and listing the numbers that pass a test. Definitions only.
+-- Counting and listing the numbers that pass a test, and sums. Definitions only.
 use Prim.Native.Nat.{ℕ, zero, suc, _+_}
 use mathlib.Core.Bool.{Bool, cond}
 use mathlib.Core.List.{List, [], _∷_}
@@ -21,3 +21,8 @@ headOr d (x ∷ xs) = x
 unfoldable pub sum : List ℕ → ℕ
 sum [] = zero
 sum (x ∷ xs) = x + sum xs
+
+-- f 0 + .. + f (n - 1)
+unfoldable pub sumBelow : ℕ → (ℕ → ℕ) → ℕ
+sumBelow zero f = 0
+sumBelow (suc n) f = sumBelow n f + f n

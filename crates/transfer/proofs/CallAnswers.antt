@@ -1,20 +1,17 @@
 -- What `transfers` answers and leaves in the lists, from the answer to the questions of the pair.
 use Prim.Native.Nat.{ℕ}
 use mathlib.Core.Path.{_≡_, refl, sym, ap, _∙_}
-use mathlib.Core.Bool.{Bool, true, false, not, cond, _&&_}
-use mathlib.Core.List.{List, [], _∷_}
+use mathlib.Core.Bool.{Bool, true, false, cond}
 use native.Mathlib.Omega.{arith}
-use borrow.Author.Tests.{ne-eqb, eqb-false, not-true}
-use lib.Dec.{eqb}
+use borrow.Author.Tests.{ne-eqb}
 use lib.IntN.{ℤ}
 use lib.ListN.{length}
-use Rattle.numbers.proofs.Tests.{both-true}
 use Rattle.model.specs.declared.Section.{Section}
 use Rattle.model.specs.Ownership.{nat}
 use Rattle.model.specs.Sections.{address}
-use Rattle.model.specs.Questions.{Question, firstNo}
+use Rattle.model.specs.Questions.{firstNo}
 use Rattle.model.specs.Transfers.{Lists, TransferCall, pairPlaces, placesOf, ofPair, ofRoom, ofTransfer, entriesOf, transfers, withEntries, listsAfter}
-use Rattle.model.proofs.QuestionLaws.{all-yes, asks-on, stops}
+use Rattle.model.proofs.QuestionLaws.{all-yes, asks-on, stops, never}
 use Rattle.section.specs.Strides.{stridedOf}
 use Rattle.transfer.specs.declared.questions.Pair.{Pair}
 use Rattle.transfer.specs.declared.questions.Paired.the-variants.{By, Refused}
@@ -22,21 +19,6 @@ use Rattle.transfer.specs.Pairs.{pairOf, pairAsked}
 use Rattle.transfer.specs.Answers.{callOf, transferredAs, rising, hasRoom, listedIn, risingLists, listsIn}
 use Rattle.transfer.proofs.PairAnswers.{Passed, pair-passed, pair-stopped}
 use Rattle.transfer.proofs.PairLists.{same-places, same-lists}
-
--- ---- a number that no question of a list has is not its refusal
-
-abbrev pub lacks : ℕ → List Question → Bool
-lacks k [] = true
-lacks k (q ∷ qs) = not (eqb (q .number) k) && lacks k qs
-
-pub never : (k : ℕ) (qs : List Question) → lacks k qs ≡ true → firstNo qs ≡ k → k ≡ 0
-unfolding firstNo
-never k [] h e = sym e
-never k (q ∷ qs) h e = go (never k qs (both-true (not (eqb (q .number) k)) (lacks k qs) h .1)) (q .holds) refl
-  where
-    go : (firstNo qs ≡ k → k ≡ 0) → (b : Bool) → q .holds ≡ b → k ≡ 0
-    go ih true p = ih (rw p at e)
-    go ih false p = absurd (eqb-false (q .number) k (not-true (eqb (q .number) k) (both-true (not (eqb (q .number) k)) (lacks k qs) h .0)) (rw p at e))
 
 module _ (left right : Section) (q m : ℤ) (x : Lists) where
   abbrev call : TransferCall

@@ -1,0 +1,100 @@
+-- What save and load answer and write, from the answer to the questions about the mapping.
+use Prim.Native.Nat.{ℕ, _≤_, _<_}
+use mathlib.Core.Path.{_≡_, refl, sym, ap, _∙_}
+use mathlib.Core.Bool.{Bool, true, false, cond}
+use mathlib.Core.List.{List}
+use native.Mathlib.Nat.{zero-add}
+use native.Mathlib.Omega.{arith}
+use borrow.Author.Tests.{ne-eqb, le-leb, lt-leb}
+use lib.IntN.{ℤ}
+use lib.ListN.{length}
+use Rattle.model.specs.declared.Mapping.{Mapping}
+use Rattle.model.specs.declared.Layout.{Layout}
+use Rattle.model.specs.Ownership.{layoutOf}
+use Rattle.model.specs.Questions.{firstNo, ofMapping}
+use Rattle.model.specs.Storages.{copied}
+use Rattle.model.specs.Checkpoints.{copyOf, wordsIn, ofWords, ofCopy, copying, placeOf, inOrder, afterCopy}
+use Rattle.model.proofs.QuestionLaws.{all-yes, asks-on, stops, never}
+use Rattle.model.proofs.CopyLaws.{copied-same}
+use Rattle.mapping.specs.declared.questions.Mapped.the-variants.{By, Refused}
+use Rattle.mapping.specs.Answers.{mappedOf}
+use Rattle.mapping.proofs.CallLaws.{stopped, passed}
+use Rattle.storage.specs.declared.Copied.the-variants.{Whole, Needs}
+use Rattle.storage.specs.Copying.{fromPlaces, toPlaces, copiedOn}
+use Rattle.storage.specs.Answers.{copiedAs, written, hasRoom, copiedIn, writtenIn}
+
+-- ---- an accepted layout
+
+module _ (b : Bool) (l : Layout) (s to : List ℕ) where
+  too-short : hasRoom (l .size) s to ≡ false → (Needs (l .size) ≡ copiedIn l s to) × (to ≡ writtenIn b l s to)
+  too-short h = (rw h, rw h)
+
+  pub read-short : length s < l .size → (Needs (l .size) ≡ copiedIn l s to) × (to ≡ writtenIn b l s to)
+  read-short h = too-short (rw (lt-leb (l .size) (length s) h))
+
+  pub written-short : l .size ≤ length s → length to < l .size → (Needs (l .size) ≡ copiedIn l s to) × (to ≡ writtenIn b l s to)
+  written-short k h = too-short (rw (le-leb (l .size) (length s) k, lt-leb (l .size) (length to) h))
+
+  pub whole : l .size ≤ length s → l .size ≤ length to → (to′ : List ℕ) → to′ ≡ copiedOn b l 0 (l .size) s to
+      → (Whole ≡ copiedIn l s to) × (to′ ≡ writtenIn b l s to)
+  whole k h to′ e =
+      let room : hasRoom (l .size) s to ≡ true = rw (le-leb (l .size) (length s) k, le-leb (l .size) (length to) h) in
+      (rw room, rw room e)
+
+module _ (m : Mapping) (s to : List ℕ) where
+  -- ---- the mapping is refused
+
+  module _ (q : ℕ) (e : mappedOf m ≡ Refused q) where
+    some : q ≡ 0 → ⊥
+    some = stopped m q e .some
+
+    first : firstNo (ofCopy (copyOf m s to)) ≡ q
+    first =
+        let f = stopped m q e .first in
+        stops (ofMapping m) (ofWords (wordsIn m) s to) (λ z. some (sym f ∙ z)) ∙ f
+
+    not-room : q ≡ 13 → ⊥
+    not-room z = absurd (let n : _≡_ {A = ℕ} 13 0 = never 13 (ofMapping m) refl (stopped m q e .first ∙ z) in omega arith)
+
+    pub answer-refused : record { refusal = q; needed = 0 } ≡ copying (copyOf m s to)
+    unfolding copying
+    answer-refused = rw (first, ne-eqb q 0 some, ne-eqb q 13 not-room)
+
+    pub written-refused : (b : Bool) → to ≡ written b (copyOf m s to)
+    unfolding afterCopy
+    written-refused true = rw (first, ne-eqb q 0 some)
+    written-refused false = rw (first, ne-eqb q 0 some)
+
+  -- ---- it passed, and question 13 decides
+
+  module _ (l : Layout) (low : ℤ) (e : mappedOf m ≡ By l low) where
+    decided : (b : Bool) → hasRoom (wordsIn m) s to ≡ b → firstNo (ofCopy (copyOf m s to)) ≡ cond b 0 13
+    unfolding firstNo
+    decided b h =
+        asks-on (ofMapping m) (ofWords (wordsIn m) s to) (all-yes (ofMapping m) refl (passed m l low e .none))
+        ∙ ap (λ (z : Bool). cond z 0 13) h
+
+    -- the words from index 0 on are those of all places
+    from-start : (b : Bool) (from to′ : ℕ → ℕ) → ((i : ℕ) → fromPlaces b (layoutOf m) i ≡ from i) → ((i : ℕ) → toPlaces b (layoutOf m) i ≡ to′ i)
+        → copiedOn b (layoutOf m) 0 (wordsIn m) s to ≡ copied from to′ (wordsIn m) s to
+    from-start b from to′ f t =
+        copied-same _ _ _ _ (wordsIn m) s to
+        (λ i h. ap (fromPlaces b (layoutOf m)) (zero-add i) ∙ f i) (λ i h. ap (toPlaces b (layoutOf m)) (zero-add i) ∙ t i)
+
+    pub answer-by : copiedAs (copiedIn l s to) ≡ copying (copyOf m s to)
+    unfolding copying layoutOf
+    answer-by = rw (passed m l low e .layout) (go (hasRoom (wordsIn m) s to) refl)
+      where
+        go : (b : Bool) → hasRoom (wordsIn m) s to ≡ b → copiedAs (copiedIn (layoutOf m) s to) ≡ copying (copyOf m s to)
+        go true h = rw (decided true h, h)
+        go false h = rw (decided false h, h)
+
+    pub written-by : (b : Bool) → writtenIn b l s to ≡ written b (copyOf m s to)
+    unfolding afterCopy layoutOf
+    written-by b = rw (passed m l low e .layout) (go b (hasRoom (wordsIn m) s to) refl)
+      where
+        go : (b h : Bool) → hasRoom (wordsIn m) s to ≡ h → writtenIn b (layoutOf m) s to ≡ written b (copyOf m s to)
+        go true true h = rw (decided true h, h) (from-start true inOrder (placeOf m) (λ i. refl) (λ i. refl))
+        go true false h = rw (decided false h, h)
+        go false true h = rw (decided true h, h) (from-start false (placeOf m) inOrder (λ i. refl) (λ i. refl))
+        go false false h = rw (decided false h, h)

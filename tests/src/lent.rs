@@ -1,0 +1,17 @@
+//! A list as a C function takes it.
+
+use std::ptr;
+
+/// Where the list begins, and how many numbers it has. One without any is lent as
+/// null.
+pub struct Lent<T>(pub *mut T, pub usize);
+
+impl<T> Lent<T> {
+    pub fn of(list: &mut [T]) -> Lent<T> {
+        if list.is_empty() {
+            Lent(ptr::null_mut(), 0)
+        } else {
+            Lent(list.as_mut_ptr(), list.len())
+        }
+    }
+}

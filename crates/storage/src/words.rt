@@ -39,11 +39,14 @@ fn copy_sixteens(from: &[u64], at: usize, to: &mut [u64], start: usize, n: usize
     j
 }
 
-// By sixteens, and the rest one by one.
+// By sixteens, and the rest one by one; all one by one where the rest would be a large part.
 pub fn copy_run(from: &[u64], at: usize, to: &mut [u64], start: usize, n: usize)
     requires { ⌜ (at + n ≤ length (now from)) × (start + n ≤ length (now to)) ⌝ }
     ensures { λ r. ⌜ now (to .exit) ≡ copiedRun at start n (now (from .entry)) (now (to .entry)) ⌝ }
 {
+    if 16 < n && n < 64 {
+        return copy_words(from, at, to, start, n);
+    }
     let done = copy_sixteens(from, at, to, start, n);
     copy_words(from, at + done, to, start + done, n - done);
 }

@@ -12,6 +12,7 @@ mod checkpoint_library;
 mod checks_by_hand;
 mod comparison;
 mod counting;
+mod counts_by_hand;
 mod enumeration;
 mod extreme_sections;
 mod faults;
@@ -58,7 +59,7 @@ use comparison::{Comparison, Difference};
 /// Compares one kind of calls, and says in words which.
 type Group = fn(&mut Comparison) -> Result<String, Difference>;
 
-const CALLS: [Group; 37] = [
+const CALLS: [Group; 38] = [
     checks_by_hand::compare_limits,
     checks_by_hand::compare_bounds,
     small_mappings::compare_countings,
@@ -71,6 +72,7 @@ const CALLS: [Group; 37] = [
     random_mappings::compare_mappings,
     bound_edges::compare_edges,
     bounds_as_offset::compare_mappings,
+    counts_by_hand::compare_cases,
     sections_by_hand::compare_cases,
     small_sections::compare_searches,
     small_sections::compare_sections,

@@ -59,7 +59,7 @@ neg-nat zero = refl
 neg-nat (suc n) = refl
 
 -- of a distance below 0 the quotient is not above 0
-none : (m D : ℕ) → nat (quotZ (subℕ (suc m) (suc D)) (pos (suc m))) ≡ 0
+pub none : (m D : ℕ) → nat (quotZ (subℕ (suc m) (suc D)) (pos (suc m))) ≡ 0
 unfolding nat
 none m D = go (ltb (suc m) (suc D))
   where
@@ -90,7 +90,7 @@ quot-neg (pos zero) m = ap (λ (n : ℕ). negℤ (pos n)) (zero-div (suc m)) ∙
 quot-neg (pos (suc n)) m = refl
 quot-neg (negsuc n) m = refl
 
-mirrored : (l h : ℤ) (m : ℕ) → quotZ (h -ℤ l +ℤ negsuc m) (negsuc m) ≡ quotZ (l -ℤ h +ℤ pos (suc m)) (pos (suc m))
+pub mirrored : (l h : ℤ) (m : ℕ) → quotZ (h -ℤ l +ℤ negsuc m) (negsuc m) ≡ quotZ (l -ℤ h +ℤ pos (suc m)) (pos (suc m))
 mirrored l h m =
     let d : negℤ (l -ℤ h) ≡ h -ℤ l =
     negℤ-+ℤ l (negℤ h) ∙ ap (λ (z : ℤ). negℤ l +ℤ z) (negℤ-negℤ h) ∙ +ℤ-comm (negℤ l) h in

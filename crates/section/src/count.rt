@@ -6,15 +6,50 @@ ghost use lib.IntN.{pos, natAbs, _+ℤ_, _*ℤ_};
 ghost use Rattle.model.specs.Questions.{inRange};
 ghost use Rattle.model.specs.Sections.{countOf};
 ghost use Rattle.section.specs.Strides.{tripletOf};
+ghost use Rattle.section.specs.Cases.{caseOf};
 use mapping::questions::natural;
 
-// How many elements l:h:s has: the quotient truncates towards zero, and is negative or 0
-// where there is none.
+// How the Fortran text reads l:h:s: forward or backward over the distance from l to h, by the
+// size of s; or empty, where h lies the other way.
+pub enum Case {
+    Forward { distance: u64, stride: u64 },
+    Backward { distance: u64, stride: u64 },
+    Empty,
+}
+
+// Which of them l:h:s is.
+fn case_of(l: i64, h: i64, s: i64) -> Case
+    requires { ⌜ inRange (tripletOf l h s) ≡ true ⌝ }
+    ensures { λ r. ⌜ r ≡ caseOf (tripletOf l h s) ⌝ }
+{
+    let up = h - l;
+    if 0 < s && 0 <= up {
+        return Case::Forward {
+            distance: natural(up),
+            stride: natural(s),
+        };
+    }
+    let down = l - h;
+    let back = 0 - s;
+    if s < 0 && 0 <= down {
+        return Case::Backward {
+            distance: natural(down),
+            stride: natural(back),
+        };
+    }
+    Case::Empty
+}
+
+// How many elements l:h:s has: l itself, and one for each stride within the distance.
 pub fn count_of(l: i64, h: i64, s: i64) -> u64
     requires { ⌜ inRange (tripletOf l h s) ≡ true ⌝ }
     ensures { λ r. ⌜ r ≡ countOf (tripletOf l h s) ⌝ }
 {
-    natural((h - l + s) / s)
+    match case_of(l, h, s) {
+        Case::Forward { distance, stride } => distance / stride + 1,
+        Case::Backward { distance, stride } => distance / stride + 1,
+        Case::Empty => 0,
+    }
 }
 
 // The element at position t.

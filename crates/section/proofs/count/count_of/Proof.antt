@@ -1,82 +1,97 @@
--- `count_of` meets its contract: differences, sum and quotient fit, so that each is read back as the number it is.
-use Prim.Native.Nat.{_<_}
-use mathlib.Core.Path.{_≡_, ap, _∙_}
+-- `count_of` meets its contract: it counts what the case has, and the cases are document 01's count.
+use Prim.Native.Nat.{ℕ, _+_, _/_, _≤_}
+use mathlib.Core.Path.{_≡_, sym, ap, _∙_, subst}
+use native.Mathlib.Nat.{div-le-self}
 use native.Mathlib.Omega.{arith}
 use borrow.Author.Needs.{needs}
-use lib.IntN.{ℤ, pos, negsuc, natAbs, _+ℤ_, _-ℤ_}
-use lib.Signed.{quotZ}
 use mir.Syntax.{w64}
-use mir.Val.{SFits, ofZ}
+use mir.Val.{Fits}
 use mir.ValLaws.{toZ-ofZ}
-use Rattle.numbers.proofs.Signed.{size-add, size-sub, size-quot-le, small-fits, back, fits-as, back-as}
-use Rattle.model.specs.Ownership.{nat}
+use Rattle.model.specs.declared.Triplet.{Triplet}
 use Rattle.model.specs.Sections.{countOf}
-use Rattle.model.proofs.AcceptedLaws.{Ranged, ranged}
+use Rattle.section.specs.declared.count.Case.{Case}
 use Rattle.section.specs.Strides.{tripletOf}
+use Rattle.section.specs.Cases.{caseOf, elementsIn, Divides}
+use Rattle.section.proofs.CaseLaws.{by-cases, divides}
 use Rattle.section.proofs.count.count_of.Statement.{statement}
 use Rattle.section.proofs.count.count_of.Tie as tie
 
--- the bits of a number that is not 0
-some-bits : (z : ℤ) → SFits w64 z → 0 < natAbs z → 0 < ofZ w64 z
-some-bits (pos n) f h = h
-some-bits (negsuc n) f h = omega (arith, f .sfits)
+counted-fits : (d s : ℕ) → d ≤ 4294967294 → Fits w64 (d / s + 1)
+counted-fits d s h = record { fits = omega (arith, div-le-self d s, h) }
 
-module _ (c : tie.Start) where
-  l : ℤ
-  l = c .args .l
+-- what is known of the case k that was found
+module _ (c : tie.After-case-of) {k : Case} (e : c .case-of .result ≡ k) where
+  start : tie.Start
+  start = c .before
 
-  h : ℤ
-  h = c .args .h
+  asked : Triplet
+  unfolding start
+  asked = tripletOf (start .args .l) (start .args .h) (start .args .s)
 
-  s : ℤ
-  s = c .args .s
+  found : k ≡ caseOf asked
+  unfolding start asked
+  found =
+      let l = toZ-ofZ w64 (start .args .l) (start .fits .l) in
+      let h = toZ-ofZ w64 (start .args .h) (start .fits .h) in
+      let s = toZ-ofZ w64 (start .args .s) (start .fits .s) in
+      sym e ∙ c .case-of .ensures ∙ (λ i. caseOf (tripletOf (l i) (h i) (s i)))
 
-  r : Ranged l h s
-  unfolding l h s
-  r = ranged (tripletOf l h s) (c .pre)
+  known : Divides k
+  unfolding start asked
+  known = subst Divides (sym found) (divides asked (start .pre))
 
-  distance : back w64 h -ℤ back w64 l ≡ h -ℤ l
-  unfolding l h
-  distance = λ i. toZ-ofZ w64 h (c .fits .h) i -ℤ toZ-ofZ w64 l (c .fits .l) i
+  counted : elementsIn k ≡ countOf asked
+  unfolding start asked
+  counted = ap elementsIn found ∙ by-cases asked (start .pre)
 
-  distance-fits : SFits w64 (h -ℤ l)
-  distance-fits = small-fits w64 (h -ℤ l) (omega (arith, size-sub h l, r .lower, r .upper))
+case-of-requires : tie.Need-case-of-requires
+case-of-requires c κs = search needs
 
-  sum : back w64 (back w64 h -ℤ back w64 l) +ℤ back w64 s ≡ h -ℤ l +ℤ s
-  unfolding s
-  sum = λ i. back-as w64 distance distance-fits i +ℤ toZ-ofZ w64 s (c .fits .s) i
+enum-known-distance : tie.Need-enum-known-distance
+enum-known-distance c = search needs
 
-  sum-high : natAbs (h -ℤ l +ℤ s) < 6442450944
-  sum-high = omega (arith, size-add (h -ℤ l) s, size-sub h l, r .lower, r .upper, r .step)
+div-result : tie.Need-div-result
+div-result c = known (c .before .before .before) (c .before .distance .given .1) .0
 
-  sum-fits : SFits w64 (h -ℤ l +ℤ s)
-  sum-fits = small-fits w64 (h -ℤ l +ℤ s) (omega (arith, sum-high))
+add-result : tie.Need-add-result
+add-result c = counted-fits _ _ (known (c .before .before .before) (c .before .distance .given .1) .1)
 
-  quotient : quotZ (back w64 (back w64 (back w64 h -ℤ back w64 l) +ℤ back w64 s)) (back w64 s) ≡ quotZ (h -ℤ l +ℤ s) s
-  unfolding s
-  quotient = λ i. quotZ (back-as w64 sum sum-fits i) (toZ-ofZ w64 s (c .fits .s) i)
+enum-known-distance-2 : tie.Need-enum-known-distance-2
+enum-known-distance-2 c = search needs
 
-  quotient-fits : SFits w64 (quotZ (h -ℤ l +ℤ s) s)
-  quotient-fits = small-fits w64 (quotZ (h -ℤ l +ℤ s) s) (omega (arith, size-quot-le (h -ℤ l +ℤ s) s, sum-high))
+div-result-2 : tie.Need-div-result-2
+div-result-2 c = known (c .before .before .before) (c .before .distance2 .given .1) .0
 
-sub-natural : tie.Need-sub-natural
-unfolding l h
-sub-natural c = fits-as w64 (distance c) (distance-fits c)
+add-result-2 : tie.Need-add-result-2
+add-result-2 c = counted-fits _ _ (known (c .before .before .before) (c .before .distance2 .given .1) .1)
 
-add-natural : tie.Need-add-natural
-unfolding l h s
-add-natural c = fits-as w64 (sum c) (sum-fits c)
-
-div-natural : tie.Need-div-natural
-unfolding l h s
-div-natural c = (some-bits (c .args .s) (c .fits .s) (r c .some), fits-as w64 (quotient c) (quotient-fits c))
-
-natural-requires : tie.Need-natural-requires
-natural-requires c κs = search needs
+enum-told : tie.Need-enum-told
+enum-told c = search needs
 
 returns : tie.Need-returns
-unfolding l h s countOf
-returns c = c .natural .ensures ∙ ap nat (back-as w64 (quotient (c .before)) (quotient-fits (c .before)))
+unfolding start asked
+returns c = counted (c .before .before .before) (c .before .distance .given .1)
+
+returns-2 : tie.Need-returns-2
+unfolding start asked
+returns-2 c = counted (c .before .before .before) (c .before .distance2 .given .1)
+
+returns-3 : tie.Need-returns-3
+unfolding start asked
+returns-3 c = counted (c .before .before) (c .enum-told .given .1)
 
 pub count-of-spec : {M : Type 1} → statement M
-count-of-spec = tie.close (tie.spec sub-natural add-natural div-natural natural-requires returns)
+count-of-spec =
+    tie.close
+    (tie.spec
+    case-of-requires
+    enum-known-distance
+    div-result
+    add-result
+    enum-known-distance-2
+    div-result-2
+    add-result-2
+    enum-told
+    returns
+    returns-2
+    returns-3)

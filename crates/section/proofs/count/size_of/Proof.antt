@@ -1,24 +1,17 @@
 -- `size_of` meets its contract.
 use mathlib.Core.Path.{_≡_, sym, ap, _∙_}
-use mathlib.Core.Bool.{true}
 use native.Mathlib.Omega.{arith}
 use borrow.Author.Needs.{needs}
-use borrow.Author.Tests.{ltb-true}
-use lib.IntN.{ℤ, pos, negsuc, natAbs, _-ℤ_}
-use lib.Signed.{ltZ}
+use lib.IntN.{ℤ, pos, _-ℤ_}
 use mir.Syntax.{w64}
 use mir.Val.{SFits}
 use mir.ValLaws.{toZ-ofZ}
 use Rattle.numbers.proofs.Signed.{size-sub, small-fits, back, read-of, fits-as, back-as}
 use Rattle.model.specs.Ownership.{nat}
 use Rattle.mapping.proofs.Signs.{kept}
+use Rattle.section.proofs.CaseLaws.{turned}
 use Rattle.section.proofs.count.size_of.Statement.{statement}
 use Rattle.section.proofs.count.size_of.Tie as tie
-
-turned : (z : ℤ) → ltZ z (pos 0) ≡ true → nat (pos 0 -ℤ z) ≡ natAbs z
-unfolding nat
-turned (pos n) e = absurd (omega (arith, ltb-true n 0 e))
-turned (negsuc n) e = omega arith
 
 -- minus s, as the code holds it
 module _ (c : tie.Start) where

@@ -1,6 +1,7 @@
 -- Laws of accepted sections, and of the answers of this crate.
 pub mod StridedLaws
 -- the count
+pub mod Differences
 pub mod CaseLaws
 pub mod CasesHold
 -- the questions and what they lead to

@@ -1,35 +1,20 @@
 -- `case_of` meets its contract: the distances and the stride without its sign fit, so that each is read back as the number it is.
-use Prim.Native.Nat.{_≤_}
 use mathlib.Core.Path.{_≡_, ap, _∙_}
 use mathlib.Core.Logic.{inl, inr, ⊎-elim}
 use native.Mathlib.Omega.{arith}
 use borrow.Author.Needs.{needs}
-use lib.IntN.{ℤ, pos, natAbs, _-ℤ_}
+use lib.IntN.{ℤ, pos, _-ℤ_}
 use mir.Syntax.{w64}
-use mir.Val.{SFits}
-use Rattle.numbers.proofs.Signed.{size-sub, small-fits, back, fits-as, back-as}
+use Rattle.numbers.proofs.Signed.{back}
 use Rattle.model.specs.Ownership.{nat}
 use Rattle.model.proofs.AcceptedLaws.{Ranged, ranged}
 use Rattle.mapping.proofs.Signs.{bound-read}
 use Rattle.section.specs.declared.count.Case.the-variants.{Forward, Backward}
 use Rattle.section.specs.Strides.{tripletOf}
+use Rattle.section.proofs.Differences.{difference-fits, difference-read}
 use Rattle.section.proofs.CaseLaws.{is-forward, is-backward, is-empty}
 use Rattle.section.proofs.count.case_of.Statement.{statement}
 use Rattle.section.proofs.count.case_of.Tie as tie
-
--- a difference of numbers in range, as the code has it
-module _ (y z : ℤ) (hy : natAbs y ≤ 2147483647) (hz : natAbs z ≤ 2147483647) where
-  worked-out : back w64 y -ℤ back w64 z ≡ y -ℤ z
-  worked-out = λ i. bound-read y hy i -ℤ bound-read z hz i
-
-  small : SFits w64 (y -ℤ z)
-  small = small-fits w64 (y -ℤ z) (omega (arith, size-sub y z, hy, hz))
-
-  fits : SFits w64 (back w64 y -ℤ back w64 z)
-  fits = fits-as w64 worked-out small
-
-  read : back w64 (back w64 y -ℤ back w64 z) ≡ y -ℤ z
-  read = back-as w64 worked-out small
 
 -- the numbers of the code, read back
 module _ (c : tie.Start) where
@@ -50,17 +35,17 @@ module _ (c : tie.Start) where
   stride = bound-read s (r .step)
 
   up : back w64 (back w64 h -ℤ back w64 l) ≡ h -ℤ l
-  up = read h l (r .upper) (r .lower)
+  up = difference-read h l (r .upper) (r .lower)
 
   down : back w64 (back w64 l -ℤ back w64 h) ≡ l -ℤ h
-  down = read l h (r .lower) (r .upper)
+  down = difference-read l h (r .lower) (r .upper)
 
   backward : back w64 (pos 0 -ℤ back w64 s) ≡ pos 0 -ℤ s
-  backward = read (pos 0) s (omega arith) (r .step)
+  backward = difference-read (pos 0) s (omega arith) (r .step)
 
 sub-up : tie.Need-sub-up
 unfolding l h
-sub-up c = fits (h c) (l c) (r c .upper) (r c .lower)
+sub-up c = difference-fits (h c) (l c) (r c .upper) (r c .lower)
 
 natural-requires : tie.Need-natural-requires
 natural-requires c κs = search needs
@@ -78,12 +63,12 @@ returns c =
 sub-down : tie.Need-sub-down
 unfolding l h
 sub-down c =
-    let g = c .before in fits (l g) (h g) (r g .lower) (r g .upper)
+    let g = c .before in difference-fits (l g) (h g) (r g .lower) (r g .upper)
 
 sub-back : tie.Need-sub-back
 unfolding s
 sub-back c =
-    let g = c .before in fits (pos 0) (s g) (omega arith) (r g .step)
+    let g = c .before in difference-fits (pos 0) (s g) (omega arith) (r g .step)
 
 natural-requires-3 : tie.Need-natural-requires-3
 natural-requires-3 c κs = search needs

@@ -1,28 +1,21 @@
 -- `size_of` meets its contract.
-use mathlib.Core.Path.{_≡_, sym, ap, _∙_}
+use mathlib.Core.Path.{sym, ap, _∙_}
 use native.Mathlib.Omega.{arith}
 use borrow.Author.Needs.{needs}
-use lib.IntN.{ℤ, pos, _-ℤ_}
+use lib.IntN.{pos}
 use mir.Syntax.{w64}
-use mir.Val.{SFits}
 use mir.ValLaws.{toZ-ofZ}
-use Rattle.numbers.proofs.Signed.{size-sub, small-fits, back, read-of, fits-as, back-as}
+use Rattle.numbers.proofs.Signed.{read-of}
 use Rattle.model.specs.Ownership.{nat}
 use Rattle.mapping.proofs.Signs.{kept}
+use Rattle.section.proofs.Differences.{difference-fits, difference-read}
 use Rattle.section.proofs.CaseLaws.{turned}
 use Rattle.section.proofs.count.size_of.Statement.{statement}
 use Rattle.section.proofs.count.size_of.Tie as tie
 
--- minus s, as the code holds it
-module _ (c : tie.Start) where
-  minus : pos 0 -ℤ back w64 (c .args .s) ≡ pos 0 -ℤ c .args .s
-  minus = ap (λ (z : ℤ). pos 0 -ℤ z) (toZ-ofZ w64 (c .args .s) (c .fits .s))
-
-  minus-fits : SFits w64 (pos 0 -ℤ c .args .s)
-  minus-fits = small-fits w64 (pos 0 -ℤ c .args .s) (omega (arith, size-sub (pos 0) (c .args .s), c .pre))
-
 sub-natural : tie.Need-sub-natural
-sub-natural c = fits-as w64 (minus (c .before)) (minus-fits (c .before))
+sub-natural c =
+    let s = c .before in difference-fits (pos 0) (s .args .s) (omega arith) (s .pre)
 
 natural-requires : tie.Need-natural-requires
 natural-requires c κs = search needs
@@ -30,7 +23,7 @@ natural-requires c κs = search needs
 returns : tie.Need-returns
 returns c =
     let s = c .before .before in
-    c .natural .ensures ∙ ap nat (back-as w64 (minus s) (minus-fits s))
+    c .natural .ensures ∙ ap nat (difference-read (pos 0) (s .args .s) (omega arith) (s .pre))
     ∙ turned (s .args .s) (rw (toZ-ofZ w64 (s .args .s) (s .fits .s)) at (c .before .if1 .taken))
 
 natural-requires-2 : tie.Need-natural-requires-2

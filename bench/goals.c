@@ -23,6 +23,7 @@ static held goals[GOALS] = {
     [RESTORE_LOOP] = {"restore / C loop", "", 1.3, 0, 0, 0, 0, {0}},
     [CHECKPOINT_MEMCPY] = {"k / a of 64 or more: checkpoint / memcpy", "", 2.0, 0, 0, 0, 0, {0}},
     [RESTORE_MEMCPY] = {"k / a of 64 or more: restore / memcpy", "", 2.0, 0, 0, 0, 0, {0}},
+    [FILL_BY_SIZES] = {"long fills by sizes: fill / C loop", "", 1.2, 0, 0, 0, 0, {0}},
 };
 
 void hold_against(goal g, double figure, const input *in)
@@ -37,6 +38,15 @@ void hold_against(goal g, double figure, const input *in)
     h->met += h->at_least ? figure >= h->bound : figure <= h->bound;
 }
 
+/* A number of an input, or a dash for one that it has not. */
+static void print_number(int64_t number)
+{
+    if (number == 0)
+        printf(" - |");
+    else
+        printf(" %" PRId64 " |", number);
+}
+
 void print_goals(void)
 {
     printf("\n## Goals\n\n"
@@ -47,12 +57,12 @@ void print_goals(void)
         const input *in = &h->where;
         if (h->inputs == 0)
             continue;
-        printf("| %s | at %s %.4g%s | %.4g%s | %s | %" PRId64 " | %" PRId64 " | %" PRId64 " | ", h->what,
-               h->at_least ? "least" : "most", h->bound, h->unit, h->worst, h->unit,
-               h->met == h->inputs ? "yes" : "**no**", in->processors, in->block, in->stride);
-        if (in->step == 0)
-            printf("- | %d of %d |\n", h->met, h->inputs);
-        else
-            printf("%" PRId64 " | %d of %d |\n", in->step, h->met, h->inputs);
+        printf("| %s | at %s %.4g%s | %.4g%s | %s |", h->what, h->at_least ? "least" : "most", h->bound, h->unit,
+               h->worst, h->unit, h->met == h->inputs ? "yes" : "**no**");
+        print_number(in->processors);
+        print_number(in->block);
+        print_number(in->stride);
+        print_number(in->step);
+        printf(" %d of %d |\n", h->met, h->inputs);
     }
 }

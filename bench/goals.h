@@ -14,6 +14,7 @@ typedef enum {
     RESTORE_LOOP,
     CHECKPOINT_MEMCPY,
     RESTORE_MEMCPY,
+    FILL_BY_SIZES,
     GOALS
 } goal;
 

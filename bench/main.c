@@ -1,6 +1,6 @@
 /*
  * Prints all tables in Markdown; with the argument `each` every long fill and every loop beside a checkpoint too,
- * on standard error. With `checkpoints` it prints the tables and the goals of these only.
+ * on standard error. With `checkpoints` or `gen_block` it prints the tables and the goals of these only.
  */
 #include <string.h>
 
@@ -18,14 +18,18 @@ static int asked_for(const char *word, int argc, char **argv)
 int main(int argc, char **argv)
 {
     int each_input = asked_for("each", argc, argv);
-    if (!asked_for("checkpoints", argc, argv)) {
+    int checkpoints = asked_for("checkpoints", argc, argv), gen_block = asked_for("gen_block", argc, argv);
+    if (!checkpoints && !gen_block) {
         print_long_fills(each_input);
         print_short_fills();
         print_elements();
         print_sections();
         print_growth();
     }
-    print_checkpoints(each_input);
+    if (checkpoints || !gen_block)
+        print_checkpoints(each_input);
+    if (gen_block || !checkpoints)
+        print_gen_block();
     print_goals();
     return 0;
 }

@@ -16,4 +16,7 @@ void print_growth(void);
 /* checkpoints.c */
 void print_checkpoints(int each_input);
 
+/* gen_block.c */
+void print_gen_block(void);
+
 #endif

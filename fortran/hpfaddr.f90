@@ -1,5 +1,5 @@
 ! hpfaddr: owners, local addresses, sections, assignments and checkpoints of
-! one-dimensional block-cyclic arrays.
+! one-dimensional arrays, block-cyclic or dealt by a list of sizes.
 !
 ! A mapping is eight numbers: a template of `cells` cells (1 to 2147483647) is
 ! dealt to `processors` processors (1 to 1024) in blocks of `block` cells (1 to
@@ -13,6 +13,11 @@
 ! Cells, processors, addresses and positions count from 0. The owner of cell c is
 ! processor mod(c / block, processors). The local address of an element is the
 ! number of elements with a lower index and the same owner.
+!
+! A template may be dealt by a list of sizes instead, one for each processor, 0 or more,
+! and `cells` or more in all (GEN_BLOCK of HPF 2.0's approved extensions): the first cells
+! are processor 0's, as many as sizes(1) says, the next ones processor 1's, and so on.
+! Each call takes an array of 32-bit integers for it, where it takes the block otherwise.
 !
 ! A section lower:upper:step of the array (each -2147483647 to 2147483647, step
 ! not 0) has count = max(0, (upper - lower + step) / step) elements, as in
@@ -46,59 +51,51 @@
 !
 ! Every call returns, whatever numbers it is given; it keeps no state, and writes only
 ! the lists that it is lent, so any number of threads may call at once, each with its
-! own lists. include/hpfaddr.h says what is guaranteed.
+! own lists. include/hpfaddr.h says what is guaranteed. This file is compiled after
+! hpfaddr_numbers, hpfaddr_gen_block_numbers, hpfaddr_gen_block and hpfaddr_between.
 module hpfaddr
-  use, intrinsic :: iso_c_binding, only: c_int32_t, c_int64_t, c_size_t, c_double, c_ptr, c_loc, c_null_ptr
+  use, intrinsic :: iso_c_binding, only: c_int32_t, c_int64_t, c_size_t, c_double, c_ptr
   use hpfaddr_numbers
+  use hpfaddr_gen_block_numbers
+  use hpfaddr_gen_block
+  use hpfaddr_between
   implicit none
   private
 
-  public :: hpf_mapping, hpf_triplet
+  public :: hpf_mapping, hpf_gen_block_mapping, hpf_triplet
   public :: hpf_owned, hpf_found, hpf_counted, hpf_steps, hpf_placed, hpf_filled, hpf_transferred, hpf_copied
   public :: hpf_ownership, hpf_going_back, hpf_local_count
   public :: hpf_section_steps, hpf_first_place, hpf_fill, hpf_fill_words
   public :: hpf_transfers, hpf_checkpoint, hpf_restore
-  public :: hpf_accepted, hpf_refused_cells, hpf_refused_processors, hpf_refused_block
+  public :: hpf_accepted, hpf_refused_cells, hpf_refused_processors, hpf_refused_block, hpf_refused_gen_block
   public :: hpf_refused_alignment, hpf_refused_size, hpf_refused_bounds, hpf_refused_triplet
   public :: hpf_refused_section, hpf_refused_processor_number, hpf_refused_element
   public :: hpf_refused_place, hpf_refused_quota, hpf_refused_counts, hpf_refused_room, hpf_least_quota, hpf_largest_quota
 
-  ! A mapping. Bounds that are left out are 0, as in
-  ! hpf_mapping(cells=96, processors=3, block=4, stride=1, offset=0, size=96).
-  type :: hpf_mapping
-    integer(c_int64_t) :: cells, processors, block, stride, offset, size
-    integer(c_int64_t) :: array_lower = 0, template_lower = 0
-  end type hpf_mapping
-
-  ! A section. Its step is the stride of a Fortran subscript triplet.
-  type :: hpf_triplet
-    integer(c_int64_t) :: lower, upper, stride
-  end type hpf_triplet
-
   ! The owner and the local address of the element with this declared index.
   interface hpf_ownership
-    procedure plain_ownership, typed_ownership
+    procedure plain_ownership, sizes_ownership, typed_ownership, gen_block_ownership
   end interface hpf_ownership
 
   ! The element that a processor, 0 to processors - 1, holds at a local address,
   ! 0 to one below its number of elements.
   interface hpf_going_back
-    procedure plain_going_back, typed_going_back
+    procedure plain_going_back, sizes_going_back, typed_going_back, gen_block_going_back
   end interface hpf_going_back
 
   ! The number of elements that a processor, 0 to processors - 1, holds.
   interface hpf_local_count
-    procedure plain_local_count, typed_local_count
+    procedure plain_local_count, sizes_local_count, typed_local_count, gen_block_local_count
   end interface hpf_local_count
 
   ! The count and the steps of a section.
   interface hpf_section_steps
-    procedure plain_section_steps, typed_section_steps
+    procedure plain_section_steps, sizes_section_steps, typed_section_steps, gen_block_section_steps
   end interface hpf_section_steps
 
   ! The place at which the list of a processor, 0 to processors - 1, begins.
   interface hpf_first_place
-    procedure plain_first_place, typed_first_place
+    procedure plain_first_place, sizes_first_place, typed_first_place, gen_block_first_place
   end interface hpf_first_place
 
   ! Writes the addresses of a processor's list, from a place on, into a list of
@@ -107,13 +104,13 @@ module hpfaddr
   ! quota, 3 to 1000000. Bytes after the entries written stay, and so do up to 3
   ! at the end. The list may be c_null_ptr only if list_bytes is 0.
   interface hpf_fill
-    procedure plain_fill, typed_fill
+    procedure plain_fill, sizes_fill, typed_fill, gen_block_fill
   end interface hpf_fill
 
   ! The same fill into an array of integers, on a machine that stores their lowest
   ! byte first. An array of no elements is a list without entries.
   interface hpf_fill_words
-    procedure plain_fill_words, typed_fill_words
+    procedure plain_fill_words, sizes_fill_words, typed_fill_words, gen_block_fill_words
   end interface hpf_fill_words
 
   ! Writes the entries of a sender, 0 to right_processors - 1, and a receiver, 0
@@ -123,9 +120,10 @@ module hpfaddr
   ! `sent` and on the receiver in `received`. The order is fixed from this release
   ! on: what is packed with one release is unpacked with another. On plain numbers
   ! each list has as many elements as the number after it says, on mappings all of
-  ! its own; those after the entries written stay.
+  ! its own; those after the entries written stay. Each side has a block or sizes.
   interface hpf_transfers
-    procedure plain_transfers, typed_transfers
+    procedure plain_transfers, plain_transfers_from_block, plain_transfers_to_block, plain_transfers_of_sizes
+    procedure typed_transfers, typed_transfers_from_block, typed_transfers_to_block, typed_transfers_of_sizes
   end interface hpf_transfers
 
   ! Writes the words of an array in index order: saved(i) is the word of element
@@ -135,13 +133,17 @@ module hpfaddr
   ! `size` stay, in both. Too short a list is answered by 13 and the words needed.
   interface hpf_checkpoint
     procedure plain_checkpoint, plain_checkpoint_integers, plain_checkpoint_reals
+    procedure sizes_checkpoint, sizes_checkpoint_integers, sizes_checkpoint_reals
     procedure typed_checkpoint, typed_checkpoint_integers, typed_checkpoint_reals
+    procedure gen_block_checkpoint, gen_block_checkpoint_integers, gen_block_checkpoint_reals
   end interface hpf_checkpoint
 
   ! Puts words that stand in index order where the mapping has their elements, on such lists.
   interface hpf_restore
     procedure plain_restore, plain_restore_integers, plain_restore_reals
+    procedure sizes_restore, sizes_restore_integers, sizes_restore_reals
     procedure typed_restore, typed_restore_integers, typed_restore_reals
+    procedure gen_block_restore, gen_block_restore_integers, gen_block_restore_reals
   end interface hpf_restore
 
 contains
@@ -204,12 +206,7 @@ contains
     integer(c_int64_t), intent(in) :: processor, place, quota
     integer(c_int32_t), intent(inout), target, contiguous :: list(:)
     type(hpf_filled) :: filled
-    integer(c_size_t) :: entries
-    type(c_ptr) :: start
-    entries = ubound(list, 1, c_size_t)
-    start = c_null_ptr
-    if (entries > 0) start = c_loc(list)
-    filled = typed_fill(m, t, processor, place, quota, start, 4 * entries)
+    filled = typed_fill(m, t, processor, place, quota, start_of(list), bytes_of(list))
   end function typed_fill_words
 
   function plain_fill_words(cells, processors, block, stride, offset, size, &

@@ -1,27 +1,26 @@
 ! hpfaddr_numbers: the library's C functions on plain numbers, their answers and
-! their refusals. The module hpfaddr, which programs use, says what the numbers
-! mean, and has each call on a mapping and a section as one thing each, too.
+! their refusals, and a mapping and a section as one thing each. The module hpfaddr,
+! which programs use, says what the numbers mean, and has each call on both forms.
 module hpfaddr_numbers
   use, intrinsic :: iso_c_binding, only: c_int32_t, c_int64_t, c_size_t, c_double, c_ptr, c_loc, c_null_ptr
   implicit none
   public
-  private :: start_of, start_of_integers, start_of_reals
+  private :: start_of_integers, start_of_reals
 
   ! The component `refusal` of an answer: 0, or the number of the first question
   ! answered no, of those that concern the call; every other component is then 0,
   ! but for what 13 adds, and a lent list is left as it was. The questions are asked
-  ! in this order; 5 has two halves, with 15 between them. hpf_transfers asks 1 to 7,
-  ! with 15, of the left section, then of the right one, 8 of the sender, 8 of the
-  ! receiver, 12 and 13; hpf_checkpoint and hpf_restore ask 1 to 5, with 15, and 13.
+  ! in this order; 5 has two halves, with 15 between them; a list of sizes is asked 16,
+  ! and a block 3. Transfers ask 1 to 7, with 15 and 16, of the left section, then of the
+  ! right one, 8 of the sender, 8 of the receiver, 12 and 13; checkpoints and restores
+  ! ask 1 to 5, with 15 and 16, and 13.
   integer(c_int32_t), parameter :: hpf_accepted = 0
-  ! is cells in its range?
-  integer(c_int32_t), parameter :: hpf_refused_cells = 1
-  ! is processors in its range?
-  integer(c_int32_t), parameter :: hpf_refused_processors = 2
-  ! is block in its range?
-  integer(c_int32_t), parameter :: hpf_refused_block = 3
-  ! are stride and offset in their ranges?
-  integer(c_int32_t), parameter :: hpf_refused_alignment = 4
+  integer(c_int32_t), parameter :: hpf_refused_cells = 1 ! is cells in its range?
+  integer(c_int32_t), parameter :: hpf_refused_processors = 2 ! is processors in its range?
+  integer(c_int32_t), parameter :: hpf_refused_block = 3 ! is block in its range?
+  ! are there as many sizes as processors, none below 0, and at least `cells` in all?
+  integer(c_int32_t), parameter :: hpf_refused_gen_block = 16
+  integer(c_int32_t), parameter :: hpf_refused_alignment = 4 ! are stride and offset in their ranges?
   ! is size in its range? after 15: are the elements' cells from 0 to cells - 1?
   integer(c_int32_t), parameter :: hpf_refused_size = 5
   ! are the lower bounds, the last index, if any, and the last declared cell each
@@ -37,16 +36,26 @@ module hpfaddr_numbers
   integer(c_int32_t), parameter :: hpf_refused_element = 9
   ! is the place the count, or a position whose element the processor owns?
   integer(c_int32_t), parameter :: hpf_refused_place = 10
-  ! is the quota in its range?
-  integer(c_int32_t), parameter :: hpf_refused_quota = 11
-  ! have both sections the same count?
-  integer(c_int32_t), parameter :: hpf_refused_counts = 12
+  integer(c_int32_t), parameter :: hpf_refused_quota = 11 ! is the quota in its range?
+  integer(c_int32_t), parameter :: hpf_refused_counts = 12 ! have both sections the same count?
   ! has each list room: for the pair's entries, for the array's words?
   integer(c_int32_t), parameter :: hpf_refused_room = 13
 
   ! The quotas of a fill. A fill goes on only while it has the least of them left.
   integer(c_int64_t), parameter :: hpf_least_quota = 3
   integer(c_int64_t), parameter :: hpf_largest_quota = 1000000
+
+  ! A mapping. Bounds that are left out are 0, as in
+  ! hpf_mapping(cells=96, processors=3, block=4, stride=1, offset=0, size=96).
+  type :: hpf_mapping
+    integer(c_int64_t) :: cells, processors, block, stride, offset, size
+    integer(c_int64_t) :: array_lower = 0, template_lower = 0
+  end type hpf_mapping
+
+  ! A section. Its step is the stride of a Fortran subscript triplet.
+  type :: hpf_triplet
+    integer(c_int64_t) :: lower, upper, stride
+  end type hpf_triplet
 
   ! Where an element is: its owner and its local address there.
   type, bind(c) :: hpf_owned

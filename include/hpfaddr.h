@@ -1,6 +1,6 @@
 /*
  * hpfaddr.h: owners, local addresses, sections, assignments and checkpoints of
- * one-dimensional block-cyclic arrays.
+ * one-dimensional arrays, block-cyclic or dealt by a list of sizes.
  *
  * A template is a row of cells, dealt to processors in blocks, as CYCLIC(k) of
  * HPF 2.0 says. An array is aligned to the template. A mapping is eight numbers:
@@ -25,6 +25,19 @@
  * column is c mod k. The local address of an element is the number of elements
  * with a lower index and the same owner: each processor's addresses run from 0 to
  * one below its number of elements, without a gap.
+ *
+ * A template may be dealt by a list of sizes instead, as GEN_BLOCK of HPF 2.0's approved
+ * extensions says. The mapping then has in the place of the block:
+ *
+ *   sizes, sizes_bytes  one size for each processor, 0 or more, T or more in all
+ *
+ * The list is sizes_bytes bytes at any address, 4 to a size, the lowest first, two's
+ * complement; on a machine that stores integers so, it may be an array of int32_t. It is
+ * read only, and no list that the call writes may overlap it; it may be NULL only if
+ * sizes_bytes is 0. The first cells are processor 0's, as many as the first size says, the
+ * next ones processor 1's, and so on: a processor's cells are one run, and cells past T
+ * belong to nobody. Everything else here is said of both dealings. The functions
+ * hpf_gen_block_... take such a mapping, and so does each side of hpf_transfers_between.
  *
  * A section l:h:s of the array is three more numbers, each within +-2147483647:
  *
@@ -87,17 +100,18 @@ extern "C" {
 /*
  * The field refusal of an answer. A call asks these questions in this order, those
  * that concern its arguments, and stops at the first one answered no; 5 has two
- * halves, with 15 between them. hpf_transfers asks 1 to 7, with 15, of the left
- * section, then of the right one, 8 of the sender, 8 of the receiver, 12 and 13;
- * hpf_checkpoint and hpf_restore ask 1 to 5, with 15, and 13. The refusal is the
- * number of that question, every other field is 0, but for what 13 adds, and a lent
- * list is left as it was.
+ * halves, with 15 between them. A list of sizes is asked 16, a block 3. hpf_transfers and
+ * hpf_transfers_between ask 1 to 7, with 15 and 16, of the left section, then of the
+ * right one, 8 of the sender, 8 of the receiver, 12 and 13; checkpoints and restores ask
+ * 1 to 5, with 15 and 16, and 13. The refusal is the number of that question, every other
+ * field is 0, but for what 13 adds, and a lent list is left as it was.
  */
 enum {
     HPF_ACCEPTED = 0,
     HPF_REFUSED_CELLS = 1,            /* is cells in its range? */
     HPF_REFUSED_PROCESSORS = 2,       /* is processors in its range? */
     HPF_REFUSED_BLOCK = 3,            /* is block in its range? */
+    HPF_REFUSED_GEN_BLOCK = 16,       /* are there 4*processors bytes of sizes, none below 0, cells or more in all? */
     HPF_REFUSED_ALIGNMENT = 4,        /* are stride and offset in their ranges? */
     HPF_REFUSED_SIZE = 5,             /* is size in its range? after 15: are the elements' cells from 0 to cells - 1? */
     HPF_REFUSED_BOUNDS = 15,          /* are lower bounds, last index and last declared cell within +-2147483647? */
@@ -116,26 +130,26 @@ enum { HPF_LEAST_QUOTA = 3, HPF_LARGEST_QUOTA = 1000000 };
 
 /* Where an element is: its owner and its local address there. */
 typedef struct hpf_owned {
-    int32_t refusal;   /* 0, or 1 to 5, or 9, or 15 */
+    int32_t refusal;   /* 0, or 1 to 5, or 9, or 15, or 16 */
     int32_t processor; /* 0 to processors - 1 */
     int32_t address;   /* 0 or more, below the processor's number of elements */
 } hpf_owned;
 
 /* Which element is at an address. */
 typedef struct hpf_found {
-    int32_t refusal; /* 0, or 1 to 5, or 8, or 9, or 15 */
+    int32_t refusal; /* 0, or 1 to 5, or 8, or 9, or 15, or 16 */
     int32_t index;   /* array_lower to array_lower + size - 1 */
 } hpf_found;
 
 /* How many elements a processor holds: the storage to allocate there. */
 typedef struct hpf_counted {
-    int32_t refusal;  /* 0, or 1 to 5, or 8, or 15 */
+    int32_t refusal;  /* 0, or 1 to 5, or 8, or 15, or 16 */
     int32_t elements; /* 0 to size */
 } hpf_counted;
 
 /*
  * How many elements a section has, and the steps from one of a processor's
- * elements to the next. With S = a*|s| and pk cells in a course:
+ * elements to the next. With S = a*|s| and, if there is a block, pk cells in a course:
  * - Two steps, if gcd(S, pk) is below k. The processor step is the smallest
  *   positive multiple of S that moves the column up by 1 to k - 1 and stays with
  *   the processor, the return step the smallest that moves it down so. The next
@@ -143,16 +157,18 @@ typedef struct hpf_counted {
  *   return step if that has, else the sum of both: 1, 2 or 3 tries. In a section
  *   that goes down both lead down, and move the column the other way.
  * - One step, if gcd(S, pk) is k or more. It keeps the column, and costs 1 try.
+ * - One step, if there is a list of sizes: S cells, 0 courses and column move S. It costs
+ *   1 try, and after the processor's last element the place is the count.
  * - No step, if the section has one element, which costs 1 try, or none.
  * The fields of steps that there are not are 0.
  */
 typedef struct hpf_steps {
-    int64_t refusal;        /* 0, or 1 to 7, or 15 */
+    int64_t refusal;        /* 0, or 1 to 7, or 15, or 16 */
     int64_t count;          /* elements of the section, 0 to size */
     int64_t steps;          /* 0, 1 or 2 */
     int64_t cells;          /* processor step, or the one step: a multiple of S */
     int64_t courses;        /* 0 or more */
-    int64_t column;         /* 1 to k - 1, or 0 for the one step */
+    int64_t column;         /* 1 to k - 1; 0 for the one step, S for that by sizes */
     int64_t return_cells;   /* return step: a multiple of S */
     int64_t return_courses; /* 1 or more; cells are courses*pk + column, here too */
     int64_t return_column;  /* -1 to -(k - 1) */
@@ -160,13 +176,13 @@ typedef struct hpf_steps {
 
 /* Where a processor's list begins. */
 typedef struct hpf_placed {
-    int32_t refusal; /* 0, or 1 to 8, or 15 */
+    int32_t refusal; /* 0, or 1 to 8, or 15, or 16 */
     int32_t place;   /* the lowest position whose element it owns, or the count if none */
 } hpf_placed;
 
 /* What a fill did. */
 typedef struct hpf_filled {
-    int32_t refusal; /* 0, or 1 to 8, or 10, or 11, or 15 */
+    int32_t refusal; /* 0, or 1 to 8, or 10, or 11, or 15, or 16 */
     int32_t entries; /* addresses written, from the list's start on */
     int32_t tries;   /* paid for them, 0 to the quota */
     int32_t place;   /* where the next fill goes on, or the count at the end */
@@ -174,14 +190,14 @@ typedef struct hpf_filled {
 
 /* What a transfer did. */
 typedef struct hpf_transferred {
-    int32_t refusal; /* 0, or 1 to 8, or 12, or 13, or 15 */
+    int32_t refusal; /* 0, or 1 to 8, or 12, or 13, or 15, or 16 */
     int32_t entries; /* of the pair, written from each list's start on */
     int32_t needed;  /* with refusal 13, how many entries the pair has; else 0 */
 } hpf_transferred;
 
 /* What a checkpoint or a restore did. */
 typedef struct hpf_copied {
-    int32_t refusal; /* 0, or 1 to 5, or 13, or 15 */
+    int32_t refusal; /* 0, or 1 to 5, or 13, or 15, or 16 */
     int32_t needed;  /* with refusal 13, how many words each list needs: size; else 0 */
 } hpf_copied;
 
@@ -267,76 +283,8 @@ hpf_copied hpf_restore(int64_t cells, int64_t processors, int64_t block, int64_t
                        int64_t array_lower, int64_t template_lower,
                        const int64_t *saved, size_t saved_words, int64_t *storage, size_t storage_words);
 
-/*
- * The same calls on a mapping and a section as one thing each. Every number has its
- * name (a section's step is its stride), and bounds that are left out are 0, as in
- * (hpf_mapping){.cells = 96, .processors = 3, .block = 4, .stride = 1, .size = 96}.
- */
-typedef struct hpf_mapping {
-    int64_t cells, processors, block, stride, offset, size, array_lower, template_lower;
-} hpf_mapping;
-
-typedef struct hpf_triplet {
-    int64_t lower, upper, stride;
-} hpf_triplet;
-
-/* Their numbers in the order of the calls' arguments. */
-#define HPF_MAPPING_NUMBERS(m) \
-    (m).cells, (m).processors, (m).block, (m).stride, (m).offset, (m).size, (m).array_lower, (m).template_lower
-#define HPF_SECTION_NUMBERS(m, t) HPF_MAPPING_NUMBERS(m), (t).lower, (t).upper, (t).stride
-
-static inline hpf_owned hpf_ownership_of(hpf_mapping m, int64_t index)
-{
-    return hpf_ownership(HPF_MAPPING_NUMBERS(m), index);
-}
-
-static inline hpf_found hpf_going_back_of(hpf_mapping m, int64_t processor, int64_t address)
-{
-    return hpf_going_back(HPF_MAPPING_NUMBERS(m), processor, address);
-}
-
-static inline hpf_counted hpf_local_count_of(hpf_mapping m, int64_t processor)
-{
-    return hpf_local_count(HPF_MAPPING_NUMBERS(m), processor);
-}
-
-static inline hpf_copied hpf_checkpoint_of(hpf_mapping m, const int64_t *storage, size_t storage_words, int64_t *saved,
-                                           size_t saved_words)
-{
-    return hpf_checkpoint(HPF_MAPPING_NUMBERS(m), storage, storage_words, saved, saved_words);
-}
-
-static inline hpf_copied hpf_restore_of(hpf_mapping m, const int64_t *saved, size_t saved_words, int64_t *storage,
-                                        size_t storage_words)
-{
-    return hpf_restore(HPF_MAPPING_NUMBERS(m), saved, saved_words, storage, storage_words);
-}
-
-static inline hpf_steps hpf_section_steps_of(hpf_mapping m, hpf_triplet t)
-{
-    return hpf_section_steps(HPF_SECTION_NUMBERS(m, t));
-}
-
-static inline hpf_placed hpf_first_place_of(hpf_mapping m, hpf_triplet t, int64_t processor)
-{
-    return hpf_first_place(HPF_SECTION_NUMBERS(m, t), processor);
-}
-
-static inline hpf_filled hpf_fill_of(hpf_mapping m, hpf_triplet t, int64_t processor, int64_t place, int64_t quota,
-                                     uint8_t *list, size_t list_bytes)
-{
-    return hpf_fill(HPF_SECTION_NUMBERS(m, t), processor, place, quota, list, list_bytes);
-}
-
-static inline hpf_transferred hpf_transfers_of(hpf_mapping left, hpf_triplet left_section,
-                                               hpf_mapping right, hpf_triplet right_section,
-                                               int64_t sender, int64_t receiver,
-                                               int32_t *positions, size_t positions_entries, int32_t *sent,
-                                               size_t sent_entries, int32_t *received, size_t received_entries)
-{
-    return hpf_transfers(HPF_SECTION_NUMBERS(left, left_section), HPF_SECTION_NUMBERS(right, right_section), sender,
-                         receiver, positions, positions_entries, sent, sent_entries, received, received_entries);
-}
+#include "hpfaddr_gen_block.h"
+#include "hpfaddr_typed.h"
 
 #ifdef __cplusplus
 }

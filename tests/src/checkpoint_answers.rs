@@ -1,6 +1,7 @@
 //! The answers that the library is to give for checkpoints and restores, and the words
 //! that these are to write: by the questions and the enumeration.
 
+use crate::calls::Calls;
 use crate::checkpoint_comparison::Copying;
 use crate::checkpoint_enumeration::Layout;
 use crate::checkpoint_library::{Copied, Direction};
@@ -19,7 +20,12 @@ impl Copying {
 }
 
 /// What a call does with a list of these words and another of so many.
-pub fn copy(direction: Direction, layout: &Layout, from: &[i64], room: usize) -> Copying {
+pub fn copy(
+    direction: Direction,
+    layout: &Layout<impl Calls>,
+    from: &[i64],
+    room: usize,
+) -> Copying {
     match questions::of_copy(&layout.m, [from.len(), room]) {
         0 => Copying {
             answer: Copied {
@@ -28,7 +34,7 @@ pub fn copy(direction: Direction, layout: &Layout, from: &[i64], room: usize) ->
             },
             words: words(direction, &layout.places, from),
         },
-        13 => Copying::refused(13, layout.m.size),
+        13 => Copying::refused(13, layout.m.numbers().size),
         refusal => Copying::refused(refusal, 0),
     }
 }

@@ -1,9 +1,10 @@
 //! Calls the library for checkpoints and restores, and compares answers and lists with
 //! the expected ones.
 
+use crate::calls::Calls;
 use crate::checkpoint_answers;
 use crate::checkpoint_enumeration::Layout;
-use crate::checkpoint_library::{self, Copied, Direction};
+use crate::checkpoint_library::{Copied, Direction};
 use crate::comparison::{Comparison, Difference, Outcome};
 use crate::guarded_list::GuardedList;
 
@@ -19,7 +20,7 @@ impl Comparison {
     pub fn copy(
         &mut self,
         direction: Direction,
-        layout: &Layout,
+        layout: &Layout<impl Calls>,
         from: &[i64],
         room: usize,
     ) -> Result<Vec<i64>, Difference> {
@@ -27,7 +28,7 @@ impl Comparison {
         let expected = checkpoint_answers::copy(direction, layout, from, room);
         let mut read = GuardedList::holding(from);
         let mut written = GuardedList::new(room);
-        let answer = checkpoint_library::copy(direction, m, read.lend(), written.lend());
+        let answer = m.copy(direction, read.lend(), written.lend());
         let call = || format!("{direction:?} from {} words to {room}, {m:?}", from.len());
         self.same(answer, expected.answer, call)?;
         let wrong = written.first_difference(&expected.words);
@@ -41,7 +42,11 @@ impl Comparison {
 
     /// Saves an array under one mapping and restores it under another of as many
     /// elements: each element's word is where the other has it.
-    pub fn save_and_restore(&mut self, old: &Layout, new: &Layout) -> Outcome {
+    pub fn save_and_restore(
+        &mut self,
+        old: &Layout<impl Calls>,
+        new: &Layout<impl Calls>,
+    ) -> Outcome {
         let size = old.places.len();
         let storage = distinct_words(size);
         let saved = self.copy(Direction::Checkpoint, old, &storage, size)?;

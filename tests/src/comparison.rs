@@ -2,7 +2,8 @@
 
 use std::fmt::Debug;
 
-use crate::library::{self, Counted, Found, Mapping, Owned};
+use crate::calls::Calls;
+use crate::library::{Counted, Found, Owned};
 
 /// The first answer that is not the expected one, in words.
 pub struct Difference(pub String);
@@ -15,8 +16,8 @@ pub struct Comparison {
 }
 
 impl Comparison {
-    pub fn ownership(&mut self, m: &Mapping, index: i64, expected: Owned) -> Outcome {
-        let answer = library::ownership(m, index);
+    pub fn ownership(&mut self, m: &impl Calls, index: i64, expected: Owned) -> Outcome {
+        let answer = m.ownership(index);
         self.same(answer, expected, || {
             format!("ownership of element {index}, {m:?}")
         })
@@ -24,19 +25,19 @@ impl Comparison {
 
     pub fn going_back(
         &mut self,
-        m: &Mapping,
+        m: &impl Calls,
         processor: i64,
         address: i64,
         expected: Found,
     ) -> Outcome {
-        let answer = library::going_back(m, processor, address);
+        let answer = m.going_back(processor, address);
         self.same(answer, expected, || {
             format!("going back from processor {processor}, address {address}, {m:?}")
         })
     }
 
-    pub fn local_count(&mut self, m: &Mapping, processor: i64, expected: Counted) -> Outcome {
-        let answer = library::local_count(m, processor);
+    pub fn local_count(&mut self, m: &impl Calls, processor: i64, expected: Counted) -> Outcome {
+        let answer = m.local_count(processor);
         self.same(answer, expected, || {
             format!("local count of processor {processor}, {m:?}")
         })

@@ -62,12 +62,23 @@ impl Enumeration {
     }
 }
 
-/// An element's address is how many elements of lower index have its owner.
 pub fn enumerate(array: &Array) -> Enumeration {
+    enumerate_owned(array.indices(), array.processors, |index| {
+        array.owner(index)
+    })
+}
+
+/// An element's address is how many elements of lower index have its owner.
+pub fn enumerate_owned(
+    indices: Range<i64>,
+    processors: u64,
+    owner: impl Fn(i64) -> u64,
+) -> Enumeration {
+    let array_lower = indices.start;
     let mut places = Vec::new();
-    let mut held = vec![Vec::new(); array.processors as usize];
-    for index in array.indices() {
-        let processor = array.owner(index);
+    let mut held = vec![Vec::new(); processors as usize];
+    for index in indices {
+        let processor = owner(index);
         let own = &mut held[processor as usize];
         places.push(Place {
             processor,
@@ -76,7 +87,7 @@ pub fn enumerate(array: &Array) -> Enumeration {
         own.push(index);
     }
     Enumeration {
-        array_lower: array.array_lower,
+        array_lower,
         places,
         held,
     }

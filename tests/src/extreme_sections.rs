@@ -118,7 +118,7 @@ pub fn compare_machines(comparison: &mut Comparison) -> Result<String, Differenc
             }
         }
     }
-    let words = chains.words();
+    let words = chains.words::<Fill>();
     Ok(format!(
         "{sections} sections of the largest arrays, {words}"
     ))

@@ -7,16 +7,16 @@ use crate::section_enumeration::{count, element};
 use crate::section_library::{Fill, Triplet};
 
 const LARGEST: i64 = 2_147_483_647;
-const MOST_FAULTS: u64 = 3;
+pub const MOST_FAULTS: u64 = 3;
 
 /// Exchanges a number of a fill for one that is at fault in the lawful fill.
 type Fault = fn(&mut Generator, &Fill, &mut Fill);
 
-/// A fault for each question of a fill, and for each half of 5.
-const FAULTS: [Fault; 12] = [
+/// A fault for each question of a fill, and for each half of 5, but for 3 and 10, which
+/// go by the dealing.
+const OF_ANY_DEALING: [Fault; 10] = [
     |generator, _, fill| fill.m.cells = outside(generator, 1, LARGEST),
     |generator, _, fill| fill.m.processors = outside(generator, 1, 1_024),
-    |generator, _, fill| fill.m.block = outside(generator, 1, 65_536),
     spoil_alignment,
     spoil_size,
     spoil_bounds,
@@ -24,7 +24,6 @@ const FAULTS: [Fault; 12] = [
     spoil_triplet,
     spoil_elements,
     |generator, lawful, fill| fill.processor = outside(generator, 0, lawful.m.processors - 1),
-    spoil_place,
     |generator, _, fill| fill.quota = outside(generator, 3, 1_000_000),
 ];
 
@@ -32,10 +31,22 @@ const FAULTS: [Fault; 12] = [
 pub fn spoil(generator: &mut Generator, lawful: &Fill) -> Fill {
     let mut fill = *lawful;
     for _ in 0..generator.within(1, MOST_FAULTS) {
-        let fault = FAULTS[generator.below(FAULTS.len() as u64) as usize];
-        fault(generator, lawful, &mut fill);
+        match generator.below(OF_ANY_DEALING.len() as u64 + 2) {
+            0 => fill.m.block = outside(generator, 1, 65_536),
+            1 => {
+                let owner = |index| lawful.m.array().owner(index);
+                spoil_place(generator, lawful, &mut fill, owner);
+            }
+            _ => spoil_number(generator, lawful, &mut fill),
+        }
     }
     fill
+}
+
+/// Exchanges a number that every dealing has.
+pub fn spoil_number(generator: &mut Generator, lawful: &Fill, fill: &mut Fill) {
+    let fault = OF_ANY_DEALING[generator.below(OF_ANY_DEALING.len() as u64) as usize];
+    fault(generator, lawful, fill);
 }
 
 /// A number below `low` or above `high`: next to them, far away, or one that
@@ -123,12 +134,17 @@ fn spoil_elements(generator: &mut Generator, lawful: &Fill, fill: &mut Fill) {
 }
 
 /// A place outside the section, or of an element that another processor owns.
-fn spoil_place(generator: &mut Generator, lawful: &Fill, fill: &mut Fill) {
+pub fn spoil_place(
+    generator: &mut Generator,
+    lawful: &Fill,
+    fill: &mut Fill,
+    owner: impl Fn(i64) -> u64,
+) {
     let count = count(&lawful.triplet);
     let position = generator.below(count + 1);
     let is_owned = position == count || {
         let index = element(&lawful.triplet, position);
-        lawful.m.array().owner(index) == lawful.processor as u64
+        owner(index) == lawful.processor as u64
     };
     fill.place = if is_owned {
         outside(generator, 0, count as i64)

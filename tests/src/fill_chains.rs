@@ -3,6 +3,7 @@
 
 use std::ops::Range;
 
+use crate::calls::CallFill;
 use crate::comparison::{Comparison, Outcome};
 use crate::faults;
 use crate::generator::Generator;
@@ -15,6 +16,40 @@ use crate::section_library::Fill;
 const LARGEST_QUOTA: u64 = 1_000_000;
 const GUARD: u64 = 8;
 
+/// A fill of either dealing, which is made again and again with another place and quota.
+pub trait Chained: CallFill + Clone {
+    /// What fills at fault may meet.
+    const REFUSALS: [usize; 11];
+
+    fn with(&self, place: i64, quota: i64) -> Self;
+
+    /// The lawful fill with some faults.
+    fn spoil(&self, generator: &mut Generator) -> Self;
+
+    /// The first question that is answered no, or 0.
+    fn refusal(&self) -> i32;
+}
+
+impl Chained for Fill {
+    const REFUSALS: [usize; 11] = [1, 2, 3, 4, 5, 6, 7, 8, 10, 11, 15];
+
+    fn with(&self, place: i64, quota: i64) -> Fill {
+        Fill {
+            place,
+            quota,
+            ..*self
+        }
+    }
+
+    fn spoil(&self, generator: &mut Generator) -> Fill {
+        faults::spoil(generator, self)
+    }
+
+    fn refusal(&self) -> i32 {
+        questions::of_fill(self)
+    }
+}
+
 /// Runs chains, and counts the fills that were accepted and that met each refusal.
 pub struct Chains<'a> {
     pub comparison: &'a mut Comparison,
@@ -22,14 +57,14 @@ pub struct Chains<'a> {
     /// Entries of the longest list that is lent.
     longest_list: u64,
     accepted: u64,
-    refused: [u64; 16],
+    refused: [u64; 17],
 }
 
 /// What the caller of a chain keeps, and what was got so far.
-struct Chain<'a> {
+struct Chain<'a, F> {
     list: &'a List,
-    /// The next fill, from the place that stands.
-    fill: Fill,
+    fill: F,
+    place: i64,
     memory: Memory,
     addresses: Vec<u32>,
     tries: u64,
@@ -42,21 +77,21 @@ impl Chains<'_> {
             generator: Generator::new(seed),
             longest_list,
             accepted: 0,
-            refused: [0; 16],
+            refused: [0; 17],
         }
     }
 
     /// The counts in words.
-    pub fn words(&self) -> String {
+    pub fn words<F: Chained>(&self) -> String {
         let accepted = self.accepted;
         let refused: u64 = self.refused.iter().sum();
-        let kinds = [1, 2, 3, 4, 5, 6, 7, 8, 10, 11, 15].map(|kind| self.refused[kind]);
+        let kinds = F::REFUSALS.map(|kind| self.refused[kind]);
         let least = kinds.into_iter().min().unwrap_or(0);
         format!("{accepted} fills and {refused} refused ones ({least} or more of each kind)")
     }
 
     /// Fills from the list's first entry until its end, and once more there.
-    pub fn run(&mut self, list: &List, fill: Fill) -> Outcome {
+    pub fn run<F: Chained>(&mut self, list: &List, fill: F) -> Outcome {
         let mut chain = Chain::new(list, fill, self.longest_list);
         loop {
             let was_at_end = chain.is_at_end();
@@ -70,10 +105,10 @@ impl Chains<'_> {
         }
     }
 
-    fn fill_at_fault(&mut self, chain: &mut Chain) -> Outcome {
-        chain.fill.quota = self.random_quota();
-        let fill = faults::spoil(&mut self.generator, &chain.fill);
-        let refusal = questions::of_fill(&fill);
+    fn fill_at_fault<F: Chained>(&mut self, chain: &mut Chain<F>) -> Outcome {
+        let lawful = chain.fill.with(chain.place, self.random_quota());
+        let fill = lawful.spoil(&mut self.generator);
+        let refusal = fill.refusal();
         self.refused[refusal as usize] += 1;
         let list = self.random_list(self.longest_list);
         let expected = Filling::refused(refusal);
@@ -83,19 +118,20 @@ impl Chains<'_> {
     }
 
     /// Compares a fill with what the rule allows, and keeps what it gave.
-    fn fill_lawfully(&mut self, chain: &mut Chain) -> Outcome {
+    fn fill_lawfully<F: Chained>(&mut self, chain: &mut Chain<F>) -> Outcome {
         self.accepted += 1;
-        chain.fill.quota = self.random_quota();
+        let quota = self.random_quota();
         let list = self.random_list(chain.known_entries().min(self.longest_list));
-        let expected = chain.expected(list.len() / 4);
+        let expected = chain.expected(quota as u64, list.len() / 4);
+        let fill = chain.fill.with(chain.place, quota);
         let start = list.start;
         let filled = self
             .comparison
-            .fill(&chain.fill, &mut chain.memory, list, &expected)?;
+            .fill(&fill, &mut chain.memory, list, &expected)?;
         let written = chain.memory.read(start, filled.entries as usize);
         chain.addresses.extend(written);
         chain.tries += filled.tries as u64;
-        chain.fill.place = i64::from(filled.place);
+        chain.place = i64::from(filled.place);
         Ok(())
     }
 
@@ -123,15 +159,15 @@ impl Chains<'_> {
     }
 }
 
-impl<'a> Chain<'a> {
+impl<'a, F: Chained> Chain<'a, F> {
     /// The memory has room for the longest list, an odd start, bytes left over,
     /// and guards.
-    fn new(list: &'a List, fill: Fill, longest_list: u64) -> Chain<'a> {
-        let place = list.place_after(0) as i64;
+    fn new(list: &'a List, fill: F, longest_list: u64) -> Chain<'a, F> {
         let memory = GUARD + 8 + 4 * longest_list + 3 + GUARD;
         Chain {
             list,
-            fill: Fill { place, ..fill },
+            fill,
+            place: list.place_after(0) as i64,
             memory: Memory::new(memory as usize),
             addresses: Vec::new(),
             tries: 0,
@@ -139,7 +175,7 @@ impl<'a> Chain<'a> {
     }
 
     fn is_at_end(&self) -> bool {
-        self.fill.place as u64 == self.list.end
+        self.place as u64 == self.list.end
     }
 
     /// How many entries a fill may take so that what it does is known.
@@ -152,16 +188,16 @@ impl<'a> Chain<'a> {
         }
     }
 
-    fn expected(&self, room: usize) -> Filling {
+    fn expected(&self, quota: u64, room: usize) -> Filling {
         let taken = self.addresses.len();
-        let entries = self.list.taken_next(taken, self.fill.quota as u64, room);
+        let entries = self.list.taken_next(taken, quota, room);
         Filling::of(entries, self.list.place_after(taken + entries.len()))
     }
 
     /// The whole list was got, in order, for the tries of all its entries.
     fn compare_whole(&self, comparison: &mut Comparison) -> Outcome {
         let entries = &self.list.entries;
-        let got = (&self.addresses, self.tries, self.fill.place as u64);
+        let got = (&self.addresses, self.tries, self.place as u64);
         let expected = (
             &processor_list::addresses(entries),
             processor_list::tries(entries),

@@ -15,3 +15,16 @@ impl<T> Lent<T> {
         }
     }
 }
+
+/// The same of a list that is only read.
+pub struct Read<T>(pub *const T, pub usize);
+
+impl<T> Read<T> {
+    pub fn of(list: &[T]) -> Read<T> {
+        if list.is_empty() {
+            Read(ptr::null(), 0)
+        } else {
+            Read(list.as_ptr(), list.len())
+        }
+    }
+}

@@ -1,10 +1,12 @@
 //! Compares the library, and the program `list`, with a slow enumeration and
 //! other ways of counting. Says what was compared, and stops at the first
-//! difference. The argument `calls` or `sheets` leaves out the other.
+//! difference. The argument `calls` or `sheets` leaves out the other, and `gen_block`
+//! all but the calls on lists of sizes.
 
 mod answers;
 mod bound_edges;
 mod bounds_as_offset;
+mod calls;
 mod checkpoint_answers;
 mod checkpoint_comparison;
 mod checkpoint_enumeration;
@@ -17,6 +19,7 @@ mod enumeration;
 mod extreme_sections;
 mod faults;
 mod fill_chains;
+mod gen_block;
 mod generator;
 mod guarded_list;
 mod lent;
@@ -116,8 +119,13 @@ fn main() -> ExitCode {
 fn groups() -> Result<Vec<Group>, Difference> {
     let arguments: Vec<String> = env::args().skip(1).collect();
     match arguments.join(" ").as_str() {
-        "" => Ok(CALLS.into_iter().chain(sheets::GROUPS).collect()),
-        "calls" => Ok(CALLS.to_vec()),
+        "" => Ok(CALLS
+            .into_iter()
+            .chain(gen_block::GROUPS)
+            .chain(sheets::GROUPS)
+            .collect()),
+        "calls" => Ok(CALLS.into_iter().chain(gen_block::GROUPS).collect()),
+        "gen_block" => Ok(gen_block::GROUPS.to_vec()),
         "sheets" => Ok(sheets::GROUPS.to_vec()),
         other => Err(Difference(format!("there is no part {other:?}"))),
     }

@@ -4,6 +4,7 @@
 
 use std::ops::Range;
 
+use crate::calls::Calls;
 use crate::library::Mapping;
 use crate::section_library::{Fill, Triplet};
 use crate::transfer_library::Transfer;
@@ -51,7 +52,7 @@ fn of_cells(m: &Mapping) -> i32 {
 }
 
 /// Questions 6 and 7.
-fn of_section(m: &Mapping, triplet: &Triplet) -> i32 {
+pub fn of_section(m: &Mapping, triplet: &Triplet) -> i32 {
     let [lower, upper, step] = [triplet.lower, triplet.upper, triplet.step].map(i128::from);
     if ![lower, upper, step].into_iter().all(is_in_range) || step == 0 {
         return 6;
@@ -90,7 +91,7 @@ fn of_place(fill: &Fill) -> i32 {
 }
 
 /// Question 11.
-fn of_quota(quota: i64) -> i32 {
+pub fn of_quota(quota: i64) -> i32 {
     first_no(&[(11, (3..=1_000_000).contains(&quota))])
 }
 
@@ -144,10 +145,13 @@ fn of_ends(transfer: &Transfer) -> i32 {
     ])
 }
 
-/// Questions 1 to 5, with 15, and 13 of two lists of so many words.
-pub fn of_copy(m: &Mapping, words: [usize; 2]) -> i32 {
-    match of_mapping(m) {
-        0 => first_no(&[(13, words.iter().all(|&words| words >= m.size as usize))]),
+/// Questions 1 to 5, with 15 and 16, and 13 of two lists of so many words.
+pub fn of_copy(m: &impl Calls, words: [usize; 2]) -> i32 {
+    match m.refusal() {
+        0 => {
+            let size = m.numbers().size as usize;
+            first_no(&[(13, words.iter().all(|&words| words >= size))])
+        }
         refusal => refusal,
     }
 }
@@ -168,7 +172,7 @@ fn count(triplet: &Triplet) -> i128 {
     ((upper - lower + step) / step).max(0)
 }
 
-fn first_no(answers: &[(i32, bool)]) -> i32 {
+pub fn first_no(answers: &[(i32, bool)]) -> i32 {
     match answers.iter().find(|(_, yes)| !yes) {
         Some((number, _)) => *number,
         None => 0,

@@ -1,6 +1,7 @@
 //! Random arrays on random mappings over the full range of each number, bounds too:
 //! both calls, and saved under one mapping and restored under another.
 
+use crate::calls::Calls;
 use crate::checkpoint_comparison::distinct_words;
 use crate::checkpoint_enumeration::Layout;
 use crate::checkpoint_library::DIRECTIONS;
@@ -36,10 +37,10 @@ fn compare_arrays(
 }
 
 /// Lists from one word too short to some words longer.
-fn compare_lists(
+pub fn compare_lists(
     comparison: &mut Comparison,
     generator: &mut Generator,
-    layout: &Layout,
+    layout: &Layout<impl Calls>,
 ) -> Outcome {
     let fewest = layout.places.len() - 1;
     for direction in DIRECTIONS {

@@ -54,7 +54,7 @@ fn compare_chains(mut chains: Chains, kind: &Kind) -> Result<String, Difference>
         let triplet = random_triplet(&mut chains.generator, &m);
         compare_whole_list(&mut chains, &m, triplet)?;
     }
-    let (number, longest, words) = (kind.chains, kind.longest_list, chains.words());
+    let (number, longest, words) = (kind.chains, kind.longest_list, chains.words::<Fill>());
     Ok(format!(
         "{number} chains with lists of up to {longest} entries, {words}"
     ))
@@ -67,7 +67,7 @@ pub fn compare_sections(comparison: &mut Comparison) -> Result<String, Differenc
         let triplet = random_triplet(&mut chains.generator, &m);
         compare_section(&mut chains, &m, triplet, MOST_ENTRIES)?;
     }
-    let words = chains.words();
+    let words = chains.words::<Fill>();
     Ok(format!("{SECTIONS} random sections at full range, {words}"))
 }
 

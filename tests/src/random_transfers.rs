@@ -1,6 +1,7 @@
 //! Random assignments at full range, between random processors and between the
 //! owners of random positions.
 
+use crate::calls::CallTransfer;
 use crate::comparison::{Comparison, Difference, Outcome};
 use crate::generator::Generator;
 use crate::library::Mapping;
@@ -28,7 +29,14 @@ fn compare_assignments(
 ) -> Result<String, Difference> {
     for _ in 0..assignments {
         let [left, right] = random_sides(&mut generator, most_positions);
-        compare_assignment(comparison, &mut generator, &left, &right)?;
+        let halves = [&left, &right].map(Half::of_any_size);
+        let transfer = |sender, receiver| Transfer {
+            left,
+            right,
+            sender,
+            receiver,
+        };
+        compare_assignment(comparison, &mut generator, &halves, transfer)?;
     }
     Ok(format!(
         "{assignments} random assignments at full range, of up to {most_positions} positions"
@@ -71,14 +79,13 @@ fn random_triplet(generator: &mut Generator, m: &Mapping, count: u64) -> Triplet
     }
 }
 
-fn compare_assignment(
+/// Between the owners of a random position, and between random processors.
+pub fn compare_assignment<T: CallTransfer>(
     comparison: &mut Comparison,
     generator: &mut Generator,
-    left: &Side,
-    right: &Side,
+    [to, from]: &[Half; 2],
+    transfer: impl Fn(i64, i64) -> T,
 ) -> Outcome {
-    let halves = [left, right].map(Half::of_any_size);
-    let [to, from] = &halves;
     let position = generator.below(to.count());
     let pairs = [
         (from.owner(position), to.owner(position)),
@@ -90,12 +97,7 @@ fn compare_assignment(
     for (sender, receiver) in pairs {
         let entries = pair(to, from, sender, receiver);
         let rooms = [(); 3].map(|()| (entries.len() + generator.below(12) as usize).max(1) - 1);
-        let transfer = Transfer {
-            left: *left,
-            right: *right,
-            sender: sender as i64,
-            receiver: receiver as i64,
-        };
+        let transfer = transfer(sender as i64, receiver as i64);
         comparison.transfers(&transfer, rooms, &Transferring::of(&entries, rooms))?;
     }
     Ok(())

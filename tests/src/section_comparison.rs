@@ -3,10 +3,10 @@
 
 use std::ops::Range;
 
+use crate::calls::{CallFill, Calls};
 use crate::comparison::{Comparison, Difference, Outcome};
-use crate::library::Mapping;
 use crate::memory::Memory;
-use crate::section_library::{self, Fill, Filled, Placed, Steps, Triplet};
+use crate::section_library::{Filled, Placed, Steps, Triplet};
 
 /// What a fill is to answer, and the addresses it is to write.
 pub struct Filling {
@@ -15,19 +15,19 @@ pub struct Filling {
 }
 
 impl Comparison {
-    pub fn section_steps(&mut self, m: &Mapping, triplet: &Triplet, expected: Steps) -> Outcome {
-        let answer = section_library::section_steps(m, triplet);
+    pub fn section_steps(&mut self, m: &impl Calls, triplet: &Triplet, expected: Steps) -> Outcome {
+        let answer = m.section_steps(triplet);
         self.same(answer, expected, || format!("steps of {triplet:?}, {m:?}"))
     }
 
     pub fn first_place(
         &mut self,
-        m: &Mapping,
+        m: &impl Calls,
         triplet: &Triplet,
         processor: i64,
         expected: Placed,
     ) -> Outcome {
-        let answer = section_library::first_place(m, triplet, processor);
+        let answer = m.first_place(triplet, processor);
         self.same(answer, expected, || {
             format!("first place of processor {processor}, {triplet:?}, {m:?}")
         })
@@ -37,14 +37,14 @@ impl Comparison {
     /// of. Gives the answer.
     pub fn fill(
         &mut self,
-        fill: &Fill,
+        fill: &impl CallFill,
         memory: &mut Memory,
         list: Range<usize>,
         expected: &Filling,
     ) -> Result<Filled, Difference> {
         let mut expected_memory = memory.clone();
         expected_memory.write(list.start, &expected.addresses);
-        let answer = section_library::fill(fill, memory.lend(list.clone()));
+        let answer = fill.fill(memory.lend(list.clone()));
         self.same(answer, expected.answer, || {
             format!("{fill:?} with a list of {} bytes", list.len())
         })?;
@@ -54,8 +54,8 @@ impl Comparison {
         Ok(answer)
     }
 
-    pub fn fill_nothing(&mut self, fill: &Fill, expected: Filled) -> Outcome {
-        let answer = section_library::fill_nothing(fill);
+    pub fn fill_nothing(&mut self, fill: &impl CallFill, expected: Filled) -> Outcome {
+        let answer = fill.fill_nothing();
         self.same(answer, expected, || format!("{fill:?} without a list"))
     }
 }

@@ -1,6 +1,7 @@
 //! Checkpoints and restores of every small mapping, with lists that are too short, exact
 //! and longer; and arrays that are saved under one mapping and restored under another.
 
+use crate::calls::Calls;
 use crate::checkpoint_comparison::distinct_words;
 use crate::checkpoint_enumeration::Layout;
 use crate::checkpoint_library::DIRECTIONS;
@@ -24,7 +25,7 @@ pub fn compare_mappings(comparison: &mut Comparison) -> Result<String, Differenc
             let array = with_bounds(&array, bounds);
             let most = most_elements(cells, &array);
             for size in 0..=most {
-                compare_lists(comparison, &mapping(cells, &array, size))?;
+                compare_lists(comparison, &Layout::of(&mapping(cells, &array, size)))?;
             }
             compare_off_template(comparison, &mapping(cells, &array, most + 1))?;
             mappings += most + 2;
@@ -37,17 +38,16 @@ pub fn compare_mappings(comparison: &mut Comparison) -> Result<String, Differenc
 
 /// With each list too short by one, no lists, exact lists and longer ones, and then
 /// there and back.
-fn compare_lists(comparison: &mut Comparison, m: &Mapping) -> Outcome {
-    let layout = Layout::of(m);
+pub fn compare_lists(comparison: &mut Comparison, layout: &Layout<impl Calls>) -> Outcome {
     let n = layout.places.len();
     let short = [[n.max(1) - 1, n], [n, n.max(1) - 1], [0, 0]];
     let enough = [[n, n], [n + 1, n + 2], [n + 2, n]];
     for [from, room] in short.into_iter().chain(enough) {
         for direction in DIRECTIONS {
-            comparison.copy(direction, &layout, &distinct_words(from), room)?;
+            comparison.copy(direction, layout, &distinct_words(from), room)?;
         }
     }
-    comparison.save_and_restore(&layout, &layout)
+    comparison.save_and_restore(layout, layout)
 }
 
 fn compare_off_template(comparison: &mut Comparison, m: &Mapping) -> Outcome {
@@ -62,7 +62,7 @@ fn compare_off_template(comparison: &mut Comparison, m: &Mapping) -> Outcome {
 pub fn compare_moves(comparison: &mut Comparison) -> Result<String, Difference> {
     let mut moves = 0;
     for size in SIZES {
-        let layouts: Vec<Layout> = largest_arrays()
+        let layouts: Vec<Layout<Mapping>> = largest_arrays()
             .iter()
             .step_by(ONE_IN)
             .zip(small_bounds::in_turn())

@@ -1,6 +1,7 @@
 //! Every small mapping: each element there and back, each processor's count,
 //! and the refusals at the ends of the indices, processors, addresses and cells.
 
+use crate::calls::Calls;
 use crate::comparison::{Comparison, Difference, Outcome};
 use crate::counting::{Counting, WAYS};
 use crate::enumeration::{enumerate, Array, Enumeration};
@@ -120,19 +121,30 @@ pub fn mapping(cells: u64, array: &Array, size: u64) -> Mapping {
     }
 }
 
-fn compare_array(comparison: &mut Comparison, m: &Mapping, enumeration: &Enumeration) -> Outcome {
-    let (first, end) = (m.array_lower, m.array_lower + m.size);
+/// Each element there and back, each count, and one past each end.
+pub fn compare_array(
+    comparison: &mut Comparison,
+    m: &impl Calls,
+    enumeration: &Enumeration,
+) -> Outcome {
+    let &Mapping {
+        processors,
+        size,
+        array_lower: first,
+        ..
+    } = m.numbers();
+    let end = first + size;
     for index in first..end {
         comparison.ownership(m, index, Owned::at(enumeration.place(index)))?;
     }
-    for processor in 0..m.processors {
+    for processor in 0..processors {
         let held = enumeration.held_below(end, processor as u64);
         compare_processor(comparison, m, processor, held)?;
     }
     for index in [first - 1, end] {
         comparison.ownership(m, index, Owned::refused(9))?;
     }
-    for processor in [-1, m.processors] {
+    for processor in [-1, processors] {
         comparison.local_count(m, processor, Counted::refused(8))?;
         comparison.going_back(m, processor, 0, Found::refused(8))?;
     }
@@ -141,7 +153,7 @@ fn compare_array(comparison: &mut Comparison, m: &Mapping, enumeration: &Enumera
 
 fn compare_processor(
     comparison: &mut Comparison,
-    m: &Mapping,
+    m: &impl Calls,
     processor: i64,
     held: &[i64],
 ) -> Outcome {

@@ -2,13 +2,14 @@
 //! entries with lists that are too short, exact and longer, and each position in
 //! one pair, once.
 
+use crate::calls::CallTransfer;
 use crate::comparison::{Comparison, Difference, Outcome};
 use crate::small_bounds;
 use crate::transfer_comparison::Transferring;
 use crate::transfer_enumeration::{pair, Entry, Half};
 use crate::transfer_library::{Side, Transfer};
 
-const SIZE: i64 = 13;
+pub const SIZE: i64 = 13;
 const PROCESSORS: [i64; 4] = [1, 2, 3, 5];
 const BLOCKS: [i64; 3] = [1, 2, 4];
 /// Stride and first cell.
@@ -16,7 +17,7 @@ const ALIGNMENTS: [(i64, i64); 4] = [(1, 0), (1, 3), (2, 1), (5, 2)];
 
 /// Sections of 13, 7, 5, 1 and no elements, upwards and downwards, of an array with
 /// lower bound 0.
-const SECTIONS: [[i64; 3]; 13] = [
+pub const SECTIONS: [[i64; 3]; 13] = [
     [0, 12, 1],
     [12, 0, -1],
     [0, 12, 2],
@@ -36,7 +37,14 @@ pub fn compare_assignments(comparison: &mut Comparison) -> Result<String, Differ
     let mut assignments = 0;
     for left in sides() {
         for right in sides() {
-            compare_assignment(comparison, &left, &right)?;
+            let halves = [&left, &right].map(Half::of_small);
+            let transfer = |sender, receiver| Transfer {
+                left,
+                right,
+                sender,
+                receiver,
+            };
+            compare_assignment(comparison, &halves[0], &halves[1], transfer)?;
             assignments += 1;
         }
     }
@@ -73,14 +81,14 @@ fn sides() -> Vec<Side> {
     sides
 }
 
-fn compare_assignment(comparison: &mut Comparison, left: &Side, right: &Side) -> Outcome {
-    let transfer = |sender: i64, receiver: i64| Transfer {
-        left: *left,
-        right: *right,
-        sender,
-        receiver,
-    };
-    let (senders, receivers) = (right.m.processors, left.m.processors);
+/// All pairs of an assignment to one side from another, and what lies beside them.
+pub fn compare_assignment<T: CallTransfer>(
+    comparison: &mut Comparison,
+    to: &Half,
+    from: &Half,
+    transfer: impl Fn(i64, i64) -> T,
+) -> Outcome {
+    let [senders, receivers] = [from, to].map(|half| half.processors() as i64);
     for (sender, receiver) in [(-1, 0), (senders, 0), (0, -1), (0, receivers)] {
         comparison.transfers(
             &transfer(sender, receiver),
@@ -88,8 +96,6 @@ fn compare_assignment(comparison: &mut Comparison, left: &Side, right: &Side) ->
             &Transferring::refused(8),
         )?;
     }
-    let halves = [left, right].map(Half::of_small);
-    let [to, from] = &halves;
     if to.count() != from.count() {
         comparison.transfers(&transfer(0, 0), [0; 3], &Transferring::refused(12))?;
         return Ok(());
@@ -103,14 +109,17 @@ fn compare_assignment(comparison: &mut Comparison, left: &Side, right: &Side) ->
         }
     }
     comparison.same(times.iter().all(|&once| once == 1), true, || {
-        format!("how often each position stands in a pair, {times:?}, {left:?}, {right:?}")
+        format!(
+            "how often each position stands in a pair, {times:?}, {:?}",
+            transfer(0, 0)
+        )
     })
 }
 
 /// With each list too short by one, exact lists and longer ones.
 fn compare_pair(
     comparison: &mut Comparison,
-    transfer: &Transfer,
+    transfer: &impl CallTransfer,
     entries: &[Entry],
 ) -> Result<Vec<Entry>, Difference> {
     let n = entries.len();

@@ -111,7 +111,7 @@ pub fn compare_exchanges(comparison: &mut Comparison) -> Result<String, Differen
 pub fn combine<const N: usize>(
     comparison: &mut Comparison,
     values: [&[i64]; N],
-    call: Call<N>,
+    call: impl Fn(&mut Comparison, [i64; N]) -> Outcome,
 ) -> Outcome {
     let combinations: usize = values.iter().map(|choices| choices.len()).product();
     for combination in 0..combinations {

@@ -1,10 +1,11 @@
 //! Calls the library for transfers and compares answers and lists with the
 //! expected ones.
 
+use crate::calls::CallTransfer;
 use crate::comparison::{Comparison, Difference};
 use crate::guarded_list::GuardedList;
 use crate::transfer_enumeration::Entry;
-use crate::transfer_library::{self, Transfer, Transferred};
+use crate::transfer_library::Transferred;
 
 /// What a transfer is to answer, and the entries it is to write, in order.
 pub struct Transferring {
@@ -17,13 +18,13 @@ impl Comparison {
     /// after them and around the lists. Gives the entries as they were found.
     pub fn transfers(
         &mut self,
-        transfer: &Transfer,
+        transfer: &impl CallTransfer,
         rooms: [usize; 3],
         expected: &Transferring,
     ) -> Result<Vec<Entry>, Difference> {
         let mut lists = rooms.map(GuardedList::new);
         let lent = lists.each_mut().map(GuardedList::lend);
-        let answer = transfer_library::transfers(transfer, lent);
+        let answer = transfer.transfers(lent);
         self.same(answer, expected.answer, || {
             format!("{transfer:?} with lists of {rooms:?}")
         })?;

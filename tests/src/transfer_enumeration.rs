@@ -1,6 +1,7 @@
 //! The entries of a pair, position by position, straight from their definition.
 
 use crate::counting::{Counting, Way};
+use crate::enumeration::Place;
 use crate::section_enumeration::{count, element};
 use crate::section_library::Triplet;
 use crate::transfer_library::Side;
@@ -8,26 +9,46 @@ use crate::transfer_library::Side;
 /// A position, the element's address on the sender, and that on the receiver.
 pub type Entry = [i32; 3];
 
-/// A side of an assignment that questions 1 to 7 accept, and a way to count its
-/// elements.
+/// Where the elements of an array are.
+pub trait Places {
+    fn owner(&self, index: i64) -> u64;
+    fn place(&self, index: i64) -> Place;
+}
+
+impl Places for Counting {
+    fn owner(&self, index: i64) -> u64 {
+        self.array.owner(index)
+    }
+
+    fn place(&self, index: i64) -> Place {
+        Counting::place(self, index)
+    }
+}
+
+/// A side of an assignment that questions 1 to 7 accept.
 pub struct Half {
-    counting: Counting,
+    places: Box<dyn Places>,
+    processors: u64,
     triplet: Triplet,
 }
 
 impl Half {
     /// Addresses are counted element by element, as they are defined.
     pub fn of_small(side: &Side) -> Half {
-        Half {
-            counting: Counting::new(side.m.array(), Way::Elements),
-            triplet: side.triplet,
-        }
+        let counting = Counting::new(side.m.array(), Way::Elements);
+        Half::new(counting, side.m.processors, side.triplet)
     }
 
     pub fn of_any_size(side: &Side) -> Half {
+        let counting = Counting::cheapest(side.m.array());
+        Half::new(counting, side.m.processors, side.triplet)
+    }
+
+    pub fn new(places: impl Places + 'static, processors: i64, triplet: Triplet) -> Half {
         Half {
-            counting: Counting::cheapest(side.m.array()),
-            triplet: side.triplet,
+            places: Box::new(places),
+            processors: processors as u64,
+            triplet,
         }
     }
 
@@ -36,16 +57,16 @@ impl Half {
     }
 
     pub fn processors(&self) -> u64 {
-        self.counting.array.processors
+        self.processors
     }
 
     pub fn owner(&self, position: u64) -> u64 {
-        self.counting.array.owner(element(&self.triplet, position))
+        self.places.owner(element(&self.triplet, position))
     }
 
     fn address(&self, position: u64) -> u64 {
         let index = element(&self.triplet, position);
-        self.counting.place(index).address
+        self.places.place(index).address
     }
 }
 

@@ -10,9 +10,9 @@ use lib.Dec.{eqb}
 use lib.IntN.{natAbs}
 use Rattle.numbers.specs.Search.{tally}
 use Rattle.model.specs.declared.Layout.{Layout}
-use Rattle.model.specs.declared.Section.{Section}
+use Rattle.model.specs.Mappings.{Section}
 use Rattle.model.specs.Ownership.{owns, held, cellOf, cellOwner, courseCells, courseOf, columnOf, ownerOf}
-use Rattle.model.specs.Sections.{layout, count, index, cell, address, ownsAt}
+use Rattle.model.specs.Sections.{layout, count, index, cell, address}
 use Rattle.model.specs.Steps.{spread, upward}
 use Rattle.model.specs.Questions.{firstNo, ofSection}
 use Rattle.model.proofs.AddressLaws.{of-owns, rank-is}
@@ -20,7 +20,7 @@ use Rattle.model.proofs.AcceptedLaws.{accepted}
 use Rattle.model.proofs.SectionLaws.{Moved, index-moved, cells-moved}
 use Rattle.model.proofs.CellOwners.{course-pos, owner-rest, column-lt, split}
 use Rattle.mapping.proofs.CellLaws.{cells, rank-direct}
-use Rattle.fill.specs.SectionMoves.{onWay, columnAt}
+use Rattle.fill.specs.SectionMoves.{cyclicOwns, cyclicAddress, onWay, columnAt}
 use Rattle.fill.proofs.TallyLaws.{tally-gap, tally-period}
 use Rattle.fill.proofs.ColumnClasses.{classes-alike}
 
@@ -53,20 +53,20 @@ module _ (x : Section) (ok : firstNo (ofSection x) ≡ 0) (q : ℕ) where
   k-pos = accepted x ok .sized .block-pos
 
   -- the owner of the cell at a position of the processor
-  owned : (t : ℕ) → ownsAt x q t ≡ true → cellOwner (layout x) (cell x t) ≡ q
-  unfolding ownsAt ownerOf cell
+  owned : (t : ℕ) → cyclicOwns x q t ≡ true → cellOwner (layout x) (cell x t) ≡ q
+  unfolding ownerOf cell
   owned t o = of-owns (ownerOf (layout x)) q (index x t) o
 
   -- does the processor own element i?
   abbrev test : ℕ → Bool
   test i = owns (ownerOf (layout x)) q i
 
-  address-is : (t : ℕ) → ownsAt x q t ≡ true → address x t ≡ tally test (index x t)
+  address-is : (t : ℕ) → cyclicOwns x q t ≡ true → cyclicAddress x t ≡ tally test (index x t)
   unfolding address held ownerOf cell
   address-is t o = rank-is (ownerOf (layout x)) q (index x t) (owned t o)
 
-  moved-address : (t u d : ℕ) → ownsAt x q t ≡ true → ownsAt x q u ≡ true
-      → Moved (upward x) (tally test (index x t)) (tally test (index x u)) d → Moved (upward x) (address x t) (address x u) d
+  moved-address : (t u d : ℕ) → cyclicOwns x q t ≡ true → cyclicOwns x q u ≡ true
+      → Moved (upward x) (tally test (index x t)) (tally test (index x u)) d → Moved (upward x) (cyclicAddress x t) (cyclicAddress x u) d
   moved-address t u d o o′ h = rw (address-is t o, address-is u o′) h
 
   -- a whole number of courses is a period of the test
@@ -79,23 +79,23 @@ module _ (x : Section) (ok : firstNo (ofSection x) ≡ 0) (q : ℕ) where
       ∙ ap (λ (y : ℕ). eqb y q) (owner-again (layout x) p-pos k-pos (layout x .stride * j + layout x .offset) c)
 
   -- ---- alignment stride 1
-  direct : layout x .stride ≡ 1 → (t : ℕ) → ownsAt x q t ≡ true
-      → address x t + cells (layout x) q (layout x .offset) ≡ layout x .block * courseOf (layout x) (cell x t) + columnOf (layout x) (cell x t)
+  direct : layout x .stride ≡ 1 → (t : ℕ) → cyclicOwns x q t ≡ true
+      → cyclicAddress x t + cells (layout x) q (layout x .offset) ≡ layout x .block * courseOf (layout x) (cell x t) + columnOf (layout x) (cell x t)
   unfolding address ownerOf cell
   direct one t o =
-      ap (λ (z : ℕ). address x t + cells (layout x) z (layout x .offset)) (sym (owned t o))
+      ap (λ (z : ℕ). cyclicAddress x t + cells (layout x) z (layout x .offset)) (sym (owned t o))
       ∙ rank-direct (layout x) (accepted x ok .sized) one (index x t)
 
   -- n positions on, which are c courses and y₁ - y₂ columns: the address moves by c·k + y₁ - y₂
-  pub line-moves : layout x .stride ≡ 1 → (t n c y₁ y₂ d : ℕ) → t + n < count x → ownsAt x q t ≡ true → ownsAt x q (t + n) ≡ true
+  pub line-moves : layout x .stride ≡ 1 → (t n c y₁ y₂ d : ℕ) → t + n < count x → cyclicOwns x q t ≡ true → cyclicOwns x q (t + n) ≡ true
       → n * spread x + y₂ ≡ c * courseCells (layout x) + y₁ → columnAt x (t + n) + y₂ ≡ columnAt x t + y₁
-      → d + y₂ ≡ c * layout x .block + y₁ → Moved (upward x) (address x t) (address x (t + n)) d
+      → d + y₂ ≡ c * layout x .block + y₁ → Moved (upward x) (cyclicAddress x t) (cyclicAddress x (t + n)) d
   unfolding columnAt
   line-moves one t n c y₁ y₂ d l o o′ e f g = go (upward x) (cells-moved x ok t n l) f
     where
       go : (up : Bool) → Moved up (cell x t) (cell x (t + n)) (n * spread x)
           → onWay up (layout x .block) (columnOf (layout x) (cell x (t + n))) + y₂ ≡ onWay up (layout x .block) (columnOf (layout x) (cell x t)) + y₁
-          → Moved up (address x t) (address x (t + n)) d
+          → Moved up (cyclicAddress x t) (cyclicAddress x (t + n)) d
       go true h k =
           let s = courses-apart (layout x) p-pos k-pos (cell x t) (cell x (t + n)) c y₁ y₂ (owned (t + n) o′ ∙ sym (owned t o)) (omega arith) k in
           omega (arith, direct one t o, direct one (t + n) o′, ap (λ (z : ℕ). layout x .block * z) s)
@@ -106,9 +106,8 @@ module _ (x : Section) (ok : firstNo (ofSection x) ≡ 0) (q : ℕ) where
           omega (arith, direct one t o, direct one (t + n) o′, ap (λ (z : ℕ). layout x .block * z) s)
 
   -- ---- section stride 1 or -1: from a position of the processor to its next one, the address moves by 1
-  pub ones-move : natAbs (x .triplet .stride) ≡ 1 → (t n : ℕ) → t + n < count x → ownsAt x q t ≡ true → ownsAt x q (t + n) ≡ true → 0 < n
-      → ((j : ℕ) → 0 < j → j < n → ownsAt x q (t + j) ≡ false) → Moved (upward x) (address x t) (address x (t + n)) 1
-  unfolding ownsAt
+  pub ones-move : natAbs (x .triplet .stride) ≡ 1 → (t n : ℕ) → t + n < count x → cyclicOwns x q t ≡ true → cyclicOwns x q (t + n) ≡ true → 0 < n
+      → ((j : ℕ) → 0 < j → j < n → cyclicOwns x q (t + j) ≡ false) → Moved (upward x) (cyclicAddress x t) (cyclicAddress x (t + n)) 1
   ones-move one t n l o o′ some none = moved-address t (t + n) 1 o o′ (go (upward x) (at n l) (λ j h. at j (omega arith)))
     where
       at : (j : ℕ) → t + j < count x → Moved (upward x) (index x t) (index x (t + j)) j
@@ -128,8 +127,8 @@ module _ (x : Section) (ok : firstNo (ofSection x) ≡ 0) (q : ℕ) where
           ap test z ∙ none (n - j) (omega arith) (omega arith))
 
   -- ---- n positions that are whole courses: the address moves by the processor's elements in one period
-  pub periods-move : (t n c : ℕ) → t + n < count x → ownsAt x q t ≡ true → ownsAt x q (t + n) ≡ true → n * spread x ≡ c * courseCells (layout x)
-      → Moved (upward x) (address x t) (address x (t + n)) (held (ownerOf (layout x)) (n * natAbs (x .triplet .stride)) q)
+  pub periods-move : (t n c : ℕ) → t + n < count x → cyclicOwns x q t ≡ true → cyclicOwns x q (t + n) ≡ true → n * spread x ≡ c * courseCells (layout x)
+      → Moved (upward x) (cyclicAddress x t) (cyclicAddress x (t + n)) (held (ownerOf (layout x)) (n * natAbs (x .triplet .stride)) q)
   unfolding held
   periods-move t n c l o o′ e =
       moved-address t (t + n) _ o o′ (go (upward x) (index x t) (index x (t + n)) (index-moved x ok t n l))
@@ -140,11 +139,11 @@ module _ (x : Section) (ok : firstNo (ofSection x) ≡ 0) (q : ℕ) where
       go false i i′ h = ap (tally test) h ∙ tally-period test i′ (n * natAbs (x .triplet .stride)) (again n c e)
 
   -- ---- any strides: from columns that lie whole alignment strides apart, by n positions that go on alike in columns
-  module _ (t t′ n j : ℕ) (l : t + n < count x) (l′ : t′ + n < count x) (o : ownsAt x q t ≡ true) (o′ : ownsAt x q t′ ≡ true)
-      (p : ownsAt x q (t + n) ≡ true) (p′ : ownsAt x q (t′ + n) ≡ true) where
+  module _ (t t′ n j : ℕ) (l : t + n < count x) (l′ : t′ + n < count x) (o : cyclicOwns x q t ≡ true) (o′ : cyclicOwns x q t′ ≡ true)
+      (p : cyclicOwns x q (t + n) ≡ true) (p′ : cyclicOwns x q (t′ + n) ≡ true) where
     pub strides-alike : (columnAt x t′ ≡ columnAt x t + layout x .stride * j) ⊎ (columnAt x t ≡ columnAt x t′ + layout x .stride * j)
-        → columnAt x (t + n) + columnAt x t′ ≡ columnAt x (t′ + n) + columnAt x t → address x (t + n) + address x t′ ≡ address x (t′ + n) + address x t
-    unfolding columnAt ownsAt cell
+        → columnAt x (t + n) + columnAt x t′ ≡ columnAt x (t′ + n) + columnAt x t → cyclicAddress x (t + n) + cyclicAddress x t′ ≡ cyclicAddress x (t′ + n) + cyclicAddress x t
+    unfolding columnAt cell
     strides-alike apart even =
         rw (address-is t o, address-is t′ o′, address-is (t + n) p, address-is (t′ + n) p′)
         (go (upward x) (index-moved x ok t n l) (index-moved x ok t′ n l′) apart even)

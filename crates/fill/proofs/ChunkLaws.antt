@@ -9,7 +9,7 @@ use lib.ListN.{length, take, drop, take-append-drop, length-append}
 use lib.Seq.{length-front}
 use Rattle.numbers.specs.Words.{wordsOf}
 use Rattle.numbers.proofs.WordLaws.{words-length}
-use Rattle.model.specs.declared.Section.{Section}
+use Rattle.model.specs.Mappings.{Section}
 use Rattle.model.specs.declared.Position.{Position}
 use Rattle.model.specs.Sections.{count, ownsAt}
 use Rattle.model.specs.Questions.{firstNo, ofSection}
@@ -19,13 +19,13 @@ use Rattle.model.proofs.NeighbourLaws.{cost-le, cost-some}
 use Rattle.model.proofs.FillLoopLaws.{Going, starts, fill-some, fill-keeps, fill-over, goes-far, ends-full, ends-place, ends-quota}
 use Rattle.model.proofs.ByteFillsHold.{Written, fill-written, stored-words, address-low, next-le, next-owned}
 use Rattle.model.proofs.FillBounds.{Within, fill-within}
-use Rattle.section.specs.declared.questions.Strided.{Strided}
-use Rattle.section.specs.Strides.{stridedOf, ownedAt}
-use Rattle.section.proofs.StridedSections.{owned-at}
+use Rattle.section.specs.declared.shares.Share.{Share}
+use Rattle.section.specs.Strides.{stridedOf}
+use Rattle.section.specs.Shares.{shareOf, ownedBy}
+use Rattle.section.proofs.ShareLaws.{owned-by}
 use Rattle.walk.specs.declared.moves.Report.{Report}
 use Rattle.fill.specs.declared.ready.Start.{Start}
-use Rattle.fill.specs.Ready.{FillsFrom, FillsBytesFrom}
-use Rattle.fill.specs.Starting.{Accepted}
+use Rattle.fill.specs.Ready.{shareFrom, Accepted, FillsFrom, FillsBytesFrom}
 
 -- ---- a fill along the walk of an accepted section
 
@@ -53,15 +53,15 @@ module _ (x : Section) (ok : firstNo (ofSection x) ≡ 0) (t quota : ℕ) (l : L
 -- ---- a chunk, by the bytes of its words
 
 module _ (s : Start) (a : Accepted s) (bs bs′ l : List ℕ) (r : Report) (long : length bs ≡ 4 * length l) (f : FillsBytesFrom s bs bs′ r) where
-  before : (x : Section) → s .section ≡ stridedOf x → s .place .0 ≤ count x
+  before : (x : Section) → shareFrom s ≡ shareOf x (s .processor) → s .place .0 ≤ count x
   unfolding stridedOf
-  before x same = omega (arith, a .started .place, ap (λ (v : Strided). v .count) same)
+  before x same = omega (arith, a .started .place, ap (λ (v : Share). v .section .count) same)
 
   pub chunk-inside : r .entries ≤ length l
   chunk-inside =
-      let x = a .taken .source in
-      let ok = a .taken .accepted in
-      let same = a .taken .same in
+      let x = a .source in
+      let ok = a .accepted in
+      let same = a .same in
       omega (arith, f x ok same .entries, writes x ok (s .place .0) (s .quota) (wordsOf 4 bs) (before x same) .inside, words-length 4 bs)
 
   pub chunk-fills : FillsFrom s l (take (r .entries) (wordsOf 4 bs′) ++ drop (r .entries) l) r
@@ -76,14 +76,14 @@ module _ (s : Start) (a : Accepted s) (bs bs′ l : List ℕ) (r : Report) (long
 
 -- what is left to fill from place p on
 abbrev pub restOf : Start → Position → ℕ → Start
-restOf s p paid = record { section = s .section; processor = s .processor; place = p; quota = s .quota - paid }
+restOf s p paid = record { section = s .section; processor = s .processor; extent = s .extent; place = p; quota = s .quota - paid }
 
 -- what the loop keeps, at place p, with so many tries paid and n entries written
 pub record Chunked (s : Start) (l₀ l : List ℕ) (p : Position) (paid n : ℕ) : Type 0 where
   pub same : length l ≡ length l₀
   pub place : p .0 ≤ s .section .count
-  pub owned : p .0 < s .section .count → ownedAt (s .section) (s .processor) (p .0) ≡ true
-  pub goes : (x : Section) → firstNo (ofSection x) ≡ 0 → s .section ≡ stridedOf x
+  pub owned : p .0 < s .section .count → ownedBy (shareFrom s) (p .0) ≡ true
+  pub goes : (x : Section) → firstNo (ofSection x) ≡ 0 → shareFrom s ≡ shareOf x (s .processor)
       → Going (walkOf x) (fillBy (walkOf x) (s .place .0) (s .quota) l₀) (s .quota) l (p .0) paid n
 
 module _ {s : Start} (a : Accepted s) where
@@ -98,7 +98,7 @@ module _ {s : Start} (a : Accepted s) where
 
   module _ {l₀ l : List ℕ} {p : Position} {paid n : ℕ} (v : Chunked s l₀ l p paid n) where
     pub bounds : (paid ≤ s .quota) × (n ≤ length l₀)
-    bounds = let g = v .goes (a .taken .source) (a .taken .accepted) (a .taken .same) in (g .left, omega (arith, g .room, v .same))
+    bounds = let g = v .goes (a .source) (a .accepted) (a .same) in (g .left, omega (arith, g .room, v .same))
 
     pub rest-accepted : 3 ≤ s .quota - paid → Accepted (restOf s p paid)
     rest-accepted least =
@@ -112,7 +112,9 @@ module _ {s : Start} (a : Accepted s) where
                 least = least;
                 most = omega (arith, a .started .most);
               };
-          taken = a .taken;
+          source = a .source;
+          accepted = a .accepted;
+          same = a .same;
         }
 
     module _ (room : ℕ) {l′ : List ℕ} {r : Report} (f : FillsFrom (restOf s p paid) (take room (drop n l)) l′ r) where
@@ -125,11 +127,11 @@ module _ {s : Start} (a : Accepted s) where
         place : r .place .0 ≤ count x
         owned : r .place .0 < count x → ownsAt x (s .processor) (r .place .0) ≡ true
 
-      part : (x : Section) → firstNo (ofSection x) ≡ 0 → s .section ≡ stridedOf x → Part x
+      part : (x : Section) → firstNo (ofSection x) ≡ 0 → shareFrom s ≡ shareOf x (s .processor) → Part x
       unfolding stridedOf
       part x ok same =
           let e = f x ok same in
-          let counts : s .section .count ≡ count x = ap (λ (w : Strided). w .count) same in
+          let counts : s .section .count ≡ count x = ap (λ (w : Share). w .section .count) same in
           let h : p .0 ≤ count x = omega (arith, v .place) in
           let w = rw e at (writes x ok (p .0) (s .quota - paid) (take room (drop n l)) h) in
           let b = rw e at (stays-within x ok (p .0) (s .quota - paid) (take room (drop n l)) h) in
@@ -144,25 +146,23 @@ module _ {s : Start} (a : Accepted s) where
         where
           mine : p .0 < count x → ownsAt x (s .processor) (p .0) ≡ true
           mine k =
-              owned-at x ok (s .processor) (p .0) k ∙ sym (ap (λ (w : Strided). ownedAt w (s .processor) (p .0)) same)
-              ∙ v .owned (omega (arith, ap (λ (w : Strided). w .count) same))
+              owned-by x ok (s .processor) (p .0) k ∙ sym (ap (λ (w : Share). ownedBy w (p .0)) same)
+              ∙ v .owned (omega (arith, ap (λ (w : Share). w .section .count) same))
 
       pub chunk-some : (p .0 ≡ s .section .count → ⊥) → 3 ≤ s .quota - paid → 0 < length (take room (drop n l)) → 0 < r .entries
       unfolding walkOf stridedOf
       chunk-some other least some =
-          let t = a .taken in
-          let x = t .source in
+          let x = a .source in
           omega (
             arith,
-            ap (λ (g : Filled). g .entries) (f x (t .accepted) (t .same)),
-            fill-some (walkOf x) (p .0) (s .quota - paid) (take room (drop n l)) some (λ e. other (e ∙ sym (ap (λ (w : Strided). w .count) (t .same)))) least,
+            ap (λ (g : Filled). g .entries) (f x (a .accepted) (a .same)),
+            fill-some (walkOf x) (p .0) (s .quota - paid) (take room (drop n l)) some (λ e. other (e ∙ sym (ap (λ (w : Share). w .section .count) (a .same)))) least,
           )
 
       pub chunk-on : Chunked s l₀ (take n l ++ (l′ ++ drop room (drop n l))) (r .place) (paid + r .tries) (n + r .entries)
       chunk-on =
-          let t = a .taken in
-          let x = t .source in
-          let m = part x (t .accepted) (t .same) in
+          let x = a .source in
+          let m = part x (a .accepted) (a .same) in
           record {
             same =
                 omega (
@@ -175,8 +175,8 @@ module _ {s : Start} (a : Accepted s) where
                 ∙ v .same;
             place = omega (arith, m .place, m .counts);
             owned = λ k.
-                ap (λ (w : Strided). ownedAt w (s .processor) (r .place .0)) (t .same)
-                ∙ sym (owned-at x (t .accepted) (s .processor) (r .place .0) (omega (arith, m .counts)))
+                ap (λ (w : Share). ownedBy w (r .place .0)) (a .same)
+                ∙ sym (owned-by x (a .accepted) (s .processor) (r .place .0) (omega (arith, m .counts)))
                 ∙ m .owned (omega (arith, m .counts));
             goes = λ x ok same. let m = part x ok same in goes-far (walkOf x) (v .goes x ok same) room (f x ok same) (m .inside) (m .tries);
           }
@@ -188,7 +188,7 @@ module _ {s : Start} (a : Accepted s) where
 
     pub chunks-count : p .0 ≡ s .section .count → FillsFrom s l₀ l (record { entries = n; tries = paid; place = p })
     unfolding walkOf stridedOf
-    chunks-count h x ok same = ends-place (walkOf x) (v .goes x ok same) (h ∙ ap (λ (w : Strided). w .count) same)
+    chunks-count h x ok same = ends-place (walkOf x) (v .goes x ok same) (h ∙ ap (λ (w : Share). w .section .count) same)
 
     pub chunks-quota : s .quota - paid < 3 → FillsFrom s l₀ l (record { entries = n; tries = paid; place = p })
     unfolding walkOf

@@ -10,18 +10,17 @@ use native.Mathlib.Decide.{decLt}
 use native.Mathlib.Omega.{arith}
 use lib.Dec.{ltb}
 use lib.IntN.{natAbs}
-use Rattle.model.specs.declared.Section.{Section}
+use Rattle.model.specs.Mappings.{Section}
 use Rattle.model.specs.Ownership.{ownerOf, rank}
-use Rattle.model.specs.Sections.{layout, count, index, address, ownsAt}
+use Rattle.model.specs.Sections.{layout, count, index, address}
 use Rattle.model.specs.Steps.{upward}
 use Rattle.model.specs.Questions.{firstNo, ofSection}
-use Rattle.model.specs.Calls.{walkOf}
 use Rattle.model.proofs.AcceptedLaws.{accepted}
 use Rattle.model.proofs.SectionLaws.{Moved, index-moved, index-lt}
 use Rattle.model.proofs.Rests.{le-or-lt}
 use Rattle.walk.specs.declared.moves.Moves.{Moves}
 use Rattle.walk.specs.Moving.{moveFrom, Small}
-use Rattle.fill.specs.SectionMoves.{columnAt, movesOf, elementsOf}
+use Rattle.fill.specs.SectionMoves.{cyclicOwns, cyclicAddress, blockWalk, columnAt, movesOf, elementsOf}
 use Rattle.fill.specs.Starting.{Evened}
 use Rattle.walk.specs.Learning.{shifted, elementAt, addressAt, Placed, periodOf}
 use Rattle.walk.proofs.MoveLaws.{places-alike, columns-alike}
@@ -50,7 +49,7 @@ module _ (x : Section) (ok : firstNo (ofSection x) ≡ 0) where
   unfolding elementAt
   element-is t h = moved-shifted (upward x) (index x 0) (index x t) _ (from-first t h)
 
-  pub address-is : (t : ℕ) → t < count x → address x t ≡ addressAt (elementsOf x) t
+  pub address-is : (t : ℕ) → t < count x → cyclicAddress x t ≡ addressAt (elementsOf x) t
   unfolding address addressAt
   address-is t h = ap (rank (ownerOf (layout x))) (sym (element-is t h))
 
@@ -97,7 +96,7 @@ module _ (x : Section) (ok : firstNo (ofSection x) ≡ 0) where
 
   -- the walk of each processor q
   pub even : (near far both q : ℕ) → Small (movesOf x near far both) → Evened x q (movesOf x near far both)
-  unfolding walkOf paces
+  unfolding blockWalk paces
   even near far both q small =
       record {
         even = record { paces = paces x ok near far both q; address = λ t h o. address-is t h; alike = both-move };
@@ -105,20 +104,20 @@ module _ (x : Section) (ok : firstNo (ofSection x) ≡ 0) where
       }
     where
       -- where a place of the processor in column c leads
-      leads : (c t : ℕ) → t < count x → ownsAt x q t ≡ true → columnAt x t ≡ c → t + moveFrom (movesOf x near far both) c .places < count x
-          → (ownsAt x q (t + moveFrom (movesOf x near far both) c .places) ≡ true)
+      leads : (c t : ℕ) → t < count x → cyclicOwns x q t ≡ true → columnAt x t ≡ c → t + moveFrom (movesOf x near far both) c .places < count x
+          → (cyclicOwns x q (t + moveFrom (movesOf x near far both) c .places) ≡ true)
           × (columnAt x (t + moveFrom (movesOf x near far both) c .places) ≡ moveFrom (movesOf x near far both) c .column)
       leads c t h o e l =
           let p = paces x ok near far both q in
           let g : t + moveFrom (movesOf x near far both) (columnAt x t) .places < count x = rw e l in
           rw (← e) (p .same t h o g, p .columns t h o g)
 
-      both-move : (t u : ℕ) → t < count x → u < count x → ownsAt x q t ≡ true → ownsAt x q u ≡ true
+      both-move : (t u : ℕ) → t < count x → u < count x → cyclicOwns x q t ≡ true → cyclicOwns x q u ≡ true
           → moveFrom (movesOf x near far both) (columnAt x t) .tries ≡ moveFrom (movesOf x near far both) (columnAt x u) .tries
           → columnAt x t % periodOf (elementsOf x) ≡ columnAt x u % periodOf (elementsOf x)
           → t + moveFrom (movesOf x near far both) (columnAt x t) .places < count x → u + moveFrom (movesOf x near far both) (columnAt x u) .places < count x
-          → address x (t + moveFrom (movesOf x near far both) (columnAt x t) .places) + address x u
-          ≡ address x (u + moveFrom (movesOf x near far both) (columnAt x u) .places) + address x t
+          → cyclicAddress x (t + moveFrom (movesOf x near far both) (columnAt x t) .places) + cyclicAddress x u
+          ≡ cyclicAddress x (u + moveFrom (movesOf x near far both) (columnAt x u) .places) + cyclicAddress x t
       both-move t u h l o o′ e r g g′ =
           let m : Moves = movesOf x near far both in
           let same = places-alike m (columnAt x t) (columnAt x u) e in

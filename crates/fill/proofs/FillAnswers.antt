@@ -13,21 +13,20 @@ use mir.Val.{SFits}
 use mir.ValLaws.{toZ-ofZ}
 use Rattle.numbers.specs.Words.{wordsOf}
 use Rattle.numbers.proofs.Signed.{back}
-use Rattle.model.specs.declared.Section.{Section}
+use Rattle.model.specs.Mappings.{Section}
 use Rattle.model.specs.Ownership.{nat}
 use Rattle.model.specs.Questions.{firstNo, ofSection, ofProcessor, ofPlace, ofQuota}
 use Rattle.model.specs.Filling.{Filled, stopped, Outcome, fillBy, answer}
 use Rattle.model.specs.Calls.{FillCall, walkOf, requestOf, fill}
 use Rattle.model.specs.ByteFills.{ByteFill, inWords, storeEntries, bytesAfter}
 use Rattle.model.proofs.QuestionLaws.{both-yes}
-use Rattle.section.specs.Strides.{stridedOf}
+use Rattle.section.specs.Shares.{shareOf}
 use Rattle.walk.specs.declared.moves.Report.{Report}
 use Rattle.fill.specs.declared.ready.Start.{Start}
 use Rattle.fill.specs.declared.ready.Ready.{Ready}
 use Rattle.fill.specs.declared.ready.Ready.the-variants.{Go, Refused}
 use Rattle.fill.specs.declared.Filled.the-variants as filled
-use Rattle.fill.specs.Ready.{readyOf, FillsFrom, FillsBytesFrom}
-use Rattle.fill.specs.Starting.{Taken}
+use Rattle.fill.specs.Ready.{startAt, readyOf, shareFrom, Started, Accepted, FillsFrom, FillsBytesFrom}
 use Rattle.fill.specs.Answers.{outcomeAs, reportOf, FilledBytes}
 
 -- an answer about numbers that the machine reads back is one about the numbers
@@ -50,7 +49,7 @@ module _ (x : Section) (q t z : ℤ) where
 
   record Passed (s : Start) : Type 0 where
     none : no-to ≡ 0
-    section : s .section ≡ stridedOf x
+    share : shareFrom s ≡ shareOf x (s .processor)
     place : s .place .0 ≡ nat t
     quota : s .quota ≡ nat z
 
@@ -61,10 +60,10 @@ module _ (x : Section) (q t z : ℤ) where
       go : (b : Bool) → eqb no-to 0 ≡ b → Passed s
       go true p =
           let g = rw p at e in
-          let start : s ≡ record { section = stridedOf x; processor = nat q; place = record { 0 = nat t }; quota = nat z } = cc in
+          let start : s ≡ startAt (shareOf x (nat q)) t z = cc in
           record {
             none = eqb-true no-to 0 p;
-            section = ap (λ (v : Start). v .section) start;
+            share = ap shareFrom start ∙ ap (shareOf x) (sym (ap (λ (v : Start). v .processor) start));
             place = ap (λ (v : Start). v .place .0) start;
             quota = ap (λ (v : Start). v .quota) start;
           }
@@ -75,8 +74,8 @@ module _ (x : Section) (q t z : ℤ) where
   accepted e = both-yes (ofSection x) (ofProcessor (x .mapping) q ++ ofPlace x q t ++ ofQuota z) refl e .0
 
   -- a fill that passed is one of an accepted section
-  pub taken : (s : Start) → readyOf x q t z ≡ Go s → Taken (s .section)
-  taken s e = let p = passed s e in record { source = x; accepted = accepted (p .none); same = p .section }
+  pub taken : (s : Start) → Started s → readyOf x q t z ≡ Go s → Accepted s
+  taken s d e = let p = passed s e in record { started = d; source = x; accepted = accepted (p .none); same = p .share }
 
   record Stopped (n : ℕ) : Type 0 where
     first : no-to ≡ n
@@ -114,7 +113,7 @@ module _ (x : Section) (q t z : ℤ) where
       → outcomeAs (filled.Done r) l′ ≡ fill (call l)
   fill-done s l l′ r e h =
       let p = passed s e in
-      ap (λ (f : Filled). record { refusal = 0; filled = f }) (sym (h x (accepted (p .none)) (p .section))) ∙ runs s e l
+      ap (λ (f : Filled). record { refusal = 0; filled = f }) (sym (h x (accepted (p .none)) (p .share))) ∙ runs s e l
 
   pub fill-refused : (n : ℕ) (l : List ℕ) → readyOf x q t z ≡ Refused n → outcomeAs (filled.Refused n) l ≡ fill (call l)
   fill-refused n l e = stays n e l
@@ -130,7 +129,7 @@ module _ (x : Section) (q t z : ℤ) where
   unfolding inWords bytesAfter stored
   bytes-done s bs bs′ r e h =
       let p = passed s e in
-      let b = h x (accepted (p .none)) (p .section) in
+      let b = h x (accepted (p .none)) (p .share) in
       let o = runs s e (wordsOf 4 bs) in (
         (λ i. record { refusal = 0; entries = b .entries i; tries = b .tries i; place = b .place i }) ∙ ap reportOf o,
         b .bytes ∙ ap (stored bs) o,

@@ -6,6 +6,8 @@ pub mod TallyLaws
 pub mod ColumnClasses
 pub mod AddressMoves
 pub mod DriveLaws
+pub mod RunFillLaws
+pub mod DealtFills
 pub mod SmallMoves
 pub mod EvenLaws
 -- a fill's questions, its plan, its start, its chunks, and its answers

@@ -7,14 +7,13 @@ use mathlib.Core.Logic.{⊎-elim}
 use native.Mathlib.Nat.{mod-eq-of-lt, div-add-mod', mul-add-mod-self-right, add-mul-mod-self-right, mod-lt}
 use native.Mathlib.Omega.{arith}
 use borrow.Author.Tests.{lt-ltb, le-ltb}
-use Rattle.model.specs.declared.Section.{Section}
+use Rattle.model.specs.Mappings.{Section}
 use Rattle.model.specs.declared.Steps.{Steps}
 use Rattle.model.specs.declared.Steps.the-variants.{NoStep, OneStep, TwoSteps}
 use Rattle.model.specs.Ownership.{cellOwner, ownerOf, courseCells, columnOf}
-use Rattle.model.specs.Sections.{layout, count, index, cell, ownsAt}
-use Rattle.model.specs.Steps.{stepsBy, goOn, spread, stepsOf, upward, going, cost, nextBy, nextPlace}
+use Rattle.model.specs.Sections.{layout, count, index, cell}
+use Rattle.model.specs.Steps.{stepsBy, goOn, spread, cyclicSteps, upward, cyclicGoing, cost, nextBy, cyclicNext}
 use Rattle.model.specs.Questions.{firstNo, ofSection}
-use Rattle.model.specs.Calls.{walkOf}
 use Rattle.model.proofs.AddressLaws.{owns-of, of-owns}
 use Rattle.model.proofs.AcceptedLaws.{accepted}
 use Rattle.model.proofs.SectionLaws.{Moved, spread-pos, cells-moved}
@@ -26,7 +25,7 @@ use Rattle.walk.specs.declared.moves.Moves.{Moves}
 use Rattle.walk.specs.declared.moves.State.{State}
 use Rattle.walk.specs.Moving.{Move, moveFrom, atMost}
 use Rattle.walk.specs.Driving.{Paces, Stands}
-use Rattle.fill.specs.SectionMoves.{onWay, columnAt, StandsAt, movesBy, movesOf}
+use Rattle.fill.specs.SectionMoves.{cyclicOwns, blockWalk, onWay, columnAt, StandsAt, movesBy, movesOf}
 use Rattle.walk.proofs.MoveLaws.{takes-first}
 use Rattle.fill.proofs.ShapeLaws.{Shape, Suited, shape}
 
@@ -72,8 +71,8 @@ unfolding nextBy
 none-place x t n = refl
 
 -- a position whose cell has the same owner is the processor's too
-pub same-owner : (x : Section) (q t u : ℕ) → ownsAt x q t ≡ true → cellOwner (layout x) (cell x u) ≡ cellOwner (layout x) (cell x t) → ownsAt x q u ≡ true
-unfolding ownsAt ownerOf cell
+pub same-owner : (x : Section) (q t u : ℕ) → cyclicOwns x q t ≡ true → cellOwner (layout x) (cell x u) ≡ cellOwner (layout x) (cell x t) → cyclicOwns x q u ≡ true
+unfolding ownerOf cell
 same-owner x q t u o e =
     owns-of (ownerOf (layout x)) q (index x u) (e ∙ of-owns (ownerOf (layout x)) q (index x t) o)
 
@@ -90,11 +89,11 @@ module _ (x : Section) (ok : firstNo (ofSection x) ≡ 0) where
   column-low t = way-lt (upward x) (layout x .block) _ (column-lt (layout x) p-pos k-pos (cell x t))
 
   -- the section's step, by the column counted in walking direction
-  going-on : (t : ℕ) → going x t ≡ goOn true (layout x .block) (columnAt x t) (stepsOf x)
-  unfolding going columnAt
+  going-on : (t : ℕ) → cyclicGoing x t ≡ goOn true (layout x .block) (columnAt x t) (cyclicSteps x)
+  unfolding cyclicGoing columnAt
   going-on t =
-      mirror (upward x) (layout x .block) _ (column-lt (layout x) p-pos k-pos (cell x t)) (stepsOf x)
-      ∙ ap (λ (q : ℕ). goOn true (layout x .block) q (stepsOf x)) (sym (way-facing (upward x) (layout x .block) (columnOf (layout x) (cell x t))))
+      mirror (upward x) (layout x .block) _ (column-lt (layout x) p-pos k-pos (cell x t)) (cyclicSteps x)
+      ∙ ap (λ (q : ℕ). goOn true (layout x .block) q (cyclicSteps x)) (sym (way-facing (upward x) (layout x .block) (columnOf (layout x) (cell x t))))
 
   -- n positions on, that are d courses and y₁ - y₂ cells: the column
   pub column-on : (t n d y₁ y₂ z : ℕ) → t + n < count x → n * spread x + y₂ ≡ d * courseCells (layout x) + y₁ → z + y₂ ≡ columnAt x t + y₁
@@ -104,27 +103,27 @@ module _ (x : Section) (ok : firstNo (ofSection x) ≡ 0) where
       column-moved (upward x) (layout x .processors) (layout x .block) k-pos (cell x t) (cell x (t + n)) (n * spread x) d y₁ y₂ z
       (cells-moved x ok t n l) e f low
 
-  steps-none : count x < 2 → stepsOf x ≡ NoStep
-  unfolding stepsOf stepsBy
+  steps-none : count x < 2 → cyclicSteps x ≡ NoStep
+  unfolding cyclicSteps stepsBy
   steps-none few = rw (lt-ltb (count x) 2 few)
 
-  steps-some : 2 ≤ count x → Some (stepsOf x)
-  unfolding stepsOf
+  steps-some : 2 ≤ count x → Some (cyclicSteps x)
+  unfolding cyclicSteps
   steps-some two = some-steps (count x) (courseCells (layout x)) (layout x .block) (spread x) two
 
   -- two or more elements
-  module _ (two : 2 ≤ count x) (Suits : ℕ → ℕ → ℕ → ℕ → Type 0) (near far both : ℕ) (suited : Suited Suits (stepsOf x) near far both) where
+  module _ (two : 2 ≤ count x) (Suits : ℕ → ℕ → ℕ → ℕ → Type 0) (near far both : ℕ) (suited : Suited Suits (cyclicSteps x) near far both) where
     pub shape-at : (t : ℕ)
-        → Shape Suits (courseCells (layout x)) (layout x .block) (spread x) (columnAt x t) (moveFrom (movesOf x near far both) (columnAt x t)) (going x t)
-    unfolding stepsOf
+        → Shape Suits (courseCells (layout x)) (layout x .block) (spread x) (columnAt x t) (moveFrom (movesOf x near far both) (columnAt x t)) (cyclicGoing x t)
+    unfolding cyclicSteps
     shape-at t =
         rw (going-on t)
         (shape Suits (course (layout x) p-pos k-pos (spread x) (spread-pos x ok)) (count x) two (columnAt x t) (column-low t) near far both suited)
 
   -- one step of the walk from place t, by the move from its column
   pub record Pace (m : Moves) (t : ℕ) : Type 0 where
-    pub tries : cost x t ≡ moveFrom m (columnAt x t) .tries
-    pub place : nextPlace x t ≡ atMost (count x) (t + moveFrom m (columnAt x t) .places)
+    pub tries : cyclicGoing x t .tries ≡ moveFrom m (columnAt x t) .tries
+    pub place : cyclicNext x t ≡ atMost (count x) (t + moveFrom m (columnAt x t) .places)
     pub owner : t + moveFrom m (columnAt x t) .places < count x
         → cellOwner (layout x) (cell x (t + moveFrom m (columnAt x t) .places)) ≡ cellOwner (layout x) (cell x t)
     pub column : t + moveFrom m (columnAt x t) .places < count x
@@ -132,14 +131,14 @@ module _ (x : Section) (ok : firstNo (ofSection x) ≡ 0) where
 
   module _ (near far both t : ℕ) (h : t < count x) where
     by-steps : 2 ≤ count x → Pace (movesOf x near far both) t
-    unfolding cost nextPlace
+    unfolding cost cyclicNext
     by-steps two =
-        let v = shape-at two (λ a c y₁ y₂. Unit {0}) near far both (any-suits (stepsOf x) near far both) t in
+        let v = shape-at two (λ a c y₁ y₂. Unit {0}) near far both (any-suits (cyclicSteps x) near far both) t in
         let n : ℕ = moveFrom (movesOf x near far both) (columnAt x t) .places in
         record {
           tries = v .tries;
           place =
-              next-by x ok t h (stepsOf x) (steps-some two) (going x t .cells) n (v .places)
+              next-by x ok t h (cyclicSteps x) (steps-some two) (cyclicGoing x t .cells) n (v .places)
               ∙ turned x ok t h n;
           owner = λ l. going-nearest x ok two t .lands (cell x (t + n)) (rw (v .places) (cells-moved x ok t n l));
           column = λ l. column-on t n (v .c) (v .y₁) (v .y₂) _ l (v .cells) (v .columns) (v .low);
@@ -154,7 +153,7 @@ module _ (x : Section) (ok : firstNo (ofSection x) ≡ 0) where
       none-next l = omega (arith, ap (λ (g : Move). g .places) none)
 
       by-none : Pace (movesOf x near far both) t
-      unfolding cost going nextPlace
+      unfolding cost cyclicGoing cyclicNext
       by-none =
           let past : count x ≤ t + 1 = omega arith in
           record {
@@ -170,11 +169,11 @@ module _ (x : Section) (ok : firstNo (ofSection x) ≡ 0) where
     pace = ⊎-elim by-steps by-none (le-or-lt 2 (count x))
 
   -- whatever is added to addresses, the moves go along the walk of each processor q
-  unfoldable pub paces : (near far both q : ℕ) → Paces (walkOf x) (movesOf x near far both)
-  unfolding walkOf
+  unfoldable pub paces : (near far both q : ℕ) → Paces (blockWalk x) (movesOf x near far both)
+  unfolding blockWalk
   paces near far both q = record {
     column = columnAt x;
-    mine = ownsAt x q;
+    mine = cyclicOwns x q;
     least = refl;
     cost = λ t h o. pace near far both t h .tries;
     next = λ t h o. pace near far both t h .place;
@@ -183,6 +182,6 @@ module _ (x : Section) (ok : firstNo (ofSection x) ≡ 0) where
   }
 
   -- a state at a place of the processor stands in its walk
-  pub stands-in : (near far both q : ℕ) (s : State) → StandsAt x q s → Stands (walkOf x) (movesOf x near far both) (paces near far both q) s
-  unfolding walkOf paces
+  pub stands-in : (near far both q : ℕ) (s : State) → StandsAt x q s → Stands (blockWalk x) (movesOf x near far both) (paces near far both q) s
+  unfolding blockWalk paces
   stands-in near far both q s v = record { column = v .column; address = v .address; mine = v .mine }

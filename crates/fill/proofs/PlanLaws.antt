@@ -9,13 +9,13 @@ use lib.Dec.{ltb, lit<}
 use borrow.Author.Tests.{ltb-true, ltb-false}
 use Rattle.numbers.specs.Gcd.{gcd}
 use Rattle.numbers.proofs.Division.{product-le}
-use Rattle.model.specs.declared.Section.{Section}
+use Rattle.model.specs.Mappings.{Section}
 use Rattle.model.specs.declared.Step.{Step}
 use Rattle.model.specs.declared.Steps.{Steps}
 use Rattle.model.specs.declared.Steps.the-variants.{NoStep, OneStep, TwoSteps}
 use Rattle.model.specs.Ownership.{courseCells, ownerOf, held}
 use Rattle.model.specs.Sections.{layout, count}
-use Rattle.model.specs.Steps.{processorStep, returnStep, stepsBy, spread, stepsOf, upward}
+use Rattle.model.specs.Steps.{processorStep, returnStep, stepsBy, spread, cyclicSteps, upward}
 use Rattle.model.proofs.Rests.{le-or-lt}
 use Rattle.model.proofs.StepLaws.{processor-law, return-law, determinant}
 use Rattle.model.proofs.WalkLaws.{course}
@@ -112,12 +112,12 @@ still-is k S (TwoSteps r b) = record { near = refl; far = refl; both = refl }
 
 -- the section's moves have its blocks
 block-of : (x : Section) (near far both : ℕ) → movesOf x near far both .block ≡ layout x .block
-block-of x near far both = block-is (layout x .block) (spread x) (stepsOf x) near far both
+block-of x near far both = block-is (layout x .block) (spread x) (cyclicSteps x) near far both
 
 -- the moves by its numbers are the section's
 moves-are : (w : Strided) (x : Section) → w ≡ stridedOf x → (s : Steps) → stepsIn w ≡ s → (near far both : ℕ)
     → movesBy (w .layout .block) (w .layout .stride * w .stride) s near far both ≡ movesOf x near far both
-unfolding stridedOf spread stepsOf
+unfolding stridedOf spread cyclicSteps
 moves-are w x same s e near far both = rw (← e, same)
 
 module _ (w : Strided) (q : ℕ) where
@@ -147,11 +147,11 @@ module _ (w : Strided) (q : ℕ) where
   pub one-planned : (a : Step) → stepsIn w ≡ OneStep a → (n r add : ℕ) → n ≡ a .cells / (w .layout .stride * w .stride)
       → (n < w .count → r ≡ held (ownerOf (w .layout)) (n * w .stride) q) → add ≡ onward (w .upward) r → (p : Plan)
       → p ≡ Constant (movesBy (w .layout .block) (w .layout .stride * w .stride) (OneStep a) add add add) → Planned w q p
-  unfolding stridedOf spread stepsOf
+  unfolding stridedOf spread cyclicSteps
   one-planned a e n r add places held-by is p f x ok same =
       let u : add ≡ onward (upward x) r = is ∙ ap (λ (v : Strided). onward (v .upward) r) same in
       let l : add < 4294967296 = rw u (onward-low (upward x) r) in
-      let g : stepsOf x ≡ OneStep a = sym (ap stepsIn same) ∙ e in
+      let g : cyclicSteps x ≡ OneStep a = sym (ap stepsIn same) ∙ e in
       let m : n ≡ a .cells / spread x = places ∙ ap (λ (v : Strided). a .cells / (v .layout .stride * v .stride)) same in
       subst (PlannedFor x q) (sym (f ∙ ap Constant (moves-are w x same (OneStep a) e add add add))) (
         moves-small x ok add add add l l l,
@@ -164,10 +164,10 @@ module _ (w : Strided) (q : ℕ) where
   module _ (r b : Step) (e : stepsIn w ≡ TwoSteps r b) where
     pub line-planned : w .layout .stride ≡ 1 → (m : Moves)
         → m ≡ lineMoves (w .upward) (w .layout .block) (w .layout .stride * w .stride) r b → Planned w q (Constant m)
-    unfolding stridedOf spread stepsOf
+    unfolding stridedOf spread cyclicSteps
     line-planned one m f x ok same =
         let k = layout x .block in
-        let g : stepsOf x ≡ TwoSteps r b = sym (ap stepsIn same) ∙ e in
+        let g : cyclicSteps x ≡ TwoSteps r b = sym (ap stepsIn same) ∙ e in
         let u : m ≡ lineMoves (upward x) k (spread x) r b =
         f ∙ ap (λ (v : Strided). lineMoves (v .upward) (v .layout .block) (v .layout .stride * v .stride) r b) same in
         let near : ℕ = onward (upward x) (lineNear k r) in
@@ -185,4 +185,4 @@ module _ (w : Strided) (q : ℕ) where
     learnt-planned m f x ok same =
         let l : 0 < 4294967296 = lit< tt in
         subst (λ (z : Moves). PlannedFor x q (Learnt z)) (sym (f ∙ moves-are w x same (TwoSteps r b) e 0 0 0))
-        (moves-small x ok 0 0 0 l l l, block-of x 0 0 0, even x ok 0 0 0 q (moves-small x ok 0 0 0 l l l), still-is (layout x .block) (spread x) (stepsOf x))
+        (moves-small x ok 0 0 0 l l l, block-of x 0 0 0, even x ok 0 0 0 q (moves-small x ok 0 0 0 l l l), still-is (layout x .block) (spread x) (cyclicSteps x))

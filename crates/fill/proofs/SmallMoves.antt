@@ -7,12 +7,12 @@ use native.Mathlib.Nat.{mod-lt, mul-div-cancel, mul-mod-right, div-eq-of-eq-mul-
 use native.Mathlib.Omega.{arith}
 use Rattle.numbers.specs.Gcd.{gcd}
 use Rattle.numbers.proofs.SearchLaws.{head-le}
-use Rattle.model.specs.declared.Section.{Section}
+use Rattle.model.specs.Mappings.{Section}
 use Rattle.model.specs.declared.Steps.{Steps}
 use Rattle.model.specs.declared.Steps.the-variants.{NoStep, OneStep, TwoSteps}
 use Rattle.model.specs.Ownership.{courseCells}
 use Rattle.model.specs.Sections.{layout, count}
-use Rattle.model.specs.Steps.{processorIndex, returnIndex, processorStep, returnStep, oneStep, stepsBy, spread, stepsOf}
+use Rattle.model.specs.Steps.{processorIndex, returnIndex, processorStep, returnStep, oneStep, stepsBy, spread, cyclicSteps}
 use Rattle.model.specs.Questions.{firstNo, ofSection}
 use Rattle.model.proofs.AcceptedLaws.{accepted}
 use Rattle.model.proofs.SizedLaws.{course-high}
@@ -118,5 +118,5 @@ module _ (x : Section) (ok : firstNo (ofSection x) ≡ 0) where
         }
 
     pub moves-small : Small (movesOf x near far both)
-    unfolding stepsOf
-    moves-small = small-by (stepsOf x) (steps-law at-course (count x)) (few at-course (count x))
+    unfolding cyclicSteps
+    moves-small = small-by (cyclicSteps x) (steps-law at-course (count x)) (few at-course (count x))

@@ -1,4 +1,4 @@
--- Where an accepted fill starts: its state stands at its place, and the loops may start from it.
+-- Where an accepted fill in blocks starts: its state stands at its place, and the loops may start from it.
 use Prim.Native.Nat.{ℕ, _<_, _≤_}
 use mathlib.Core.Path.{_≡_, refl, sym, ap, _∙_, subst}
 use mathlib.Core.Bool.{Bool, true, false}
@@ -6,12 +6,11 @@ use native.Mathlib.Nat.{mod-lt}
 use native.Mathlib.Omega.{arith}
 use mathlib.Core.List.{List}
 use lib.Dec.{lit<}
-use Rattle.model.specs.declared.Section.{Section}
+use Rattle.model.specs.Mappings.{Section}
 use Rattle.model.specs.Ownership.{columnOf, ownerOf, rank}
 use Rattle.model.specs.Sections.{layout, count}
 use Rattle.model.specs.Questions.{firstNo, ofSection}
-use Rattle.model.specs.Calls.{walkOf}
-use Rattle.model.proofs.ByteFillsHold.{address-low}
+use Rattle.model.proofs.ByteFillsHold.{rank-low}
 use Rattle.section.specs.declared.questions.Strided.{Strided}
 use Rattle.section.specs.Strides.{stridedOf, indexAt, cellAt, ownedAt}
 use Rattle.section.proofs.StridedSections.{address-at, cell-at, owned-at}
@@ -24,17 +23,16 @@ use Rattle.walk.specs.declared.learning.Task.{Task}
 use Rattle.fill.specs.declared.plan.Plan.the-variants.{Constant, Learnt}
 use Rattle.walk.specs.Moving.{Small}
 use Rattle.walk.specs.Bursts.{Starts}
-use Rattle.fill.specs.SectionMoves.{onWay, columnAt, StandsAt}
+use Rattle.fill.specs.SectionMoves.{blockWalk, onWay, columnAt, StandsAt}
 use Rattle.walk.specs.Driving.{FillsBytes}
 use Rattle.walk.specs.Learning.{FillsBytesEven}
-use Rattle.fill.specs.Starting.{Planned, Accepted, elementsIn, taskIn, StateOf}
-use Rattle.fill.specs.Ready.{FillsBytesFrom}
+use Rattle.fill.specs.Starting.{Planned, InBlocks, FillsBlocks, elementsIn, taskIn, StateOf}
 
 way-low : (up : Bool) (k q : ℕ) → q < k → onWay up k q < k
 way-low true k q h = h
 way-low false k q h = omega arith
 
-module _ (s : Start) (a : Accepted s) where
+module _ (s : Start) (a : InBlocks s) where
   -- at the count there is no element to stand at
   pub state-past : s .section .count ≤ s .place .0 → StateOf s (record { column = 0; address = record { 0 = 0 }; place = s .place; paid = 0 })
   unfolding stridedOf
@@ -66,7 +64,7 @@ module _ (s : Start) (a : Accepted s) where
         at : (y : Section) → firstNo (ofSection y) ≡ 0 → s .section ≡ stridedOf y
             → StandsAt y (s .processor) (record { column = q; address = record { 0 = x }; place = s .place; paid = 0 })
         at y ok same = record {
-          mine = λ l. owned-at y ok (s .processor) (s .place .0) l ∙ sym (ap (λ (v : Strided). ownedAt v (s .processor) (s .place .0)) same) ∙ a .started .owned h;
+          mine = λ l. owned-at y ok (s .processor) (s .place .0) l ∙ sym (ap (λ (v : Strided). ownedAt v (s .processor) (s .place .0)) same) ∙ a .mine h;
           column = λ l.
               column ∙ ap (λ (v : Strided). onWay (v .upward) (v .layout .block) (columnOf (v .layout) (cellAt v (s .place .0)))) same
               ∙ ap (λ (z : ℕ). onWay (stridedOf y .upward) (layout y .block) (columnOf (layout y) z)) (sym (cell-at y ok (s .place .0) l));
@@ -77,7 +75,7 @@ module _ (s : Start) (a : Accepted s) where
         low =
             let y = a .taken .source in
             let l : s .place .0 < count y = omega (arith, ap (λ (v : Strided). v .count) (a .taken .same)) in
-            omega (arith, at y (a .taken .accepted) (a .taken .same) .address l, address-low y (a .taken .accepted) (s .place .0) l)
+            omega (arith, at y (a .taken .accepted) (a .taken .same) .address l, rank-low y (a .taken .accepted) (s .place .0) l (ownerOf (layout y)))
 
   -- the loops may start from it
   starts : (r : State) → StateOf s r → (m : Moves) → Small m → m .block ≡ layout (a .taken .source) .block → Starts m (s .section .count) (s .quota) r
@@ -100,16 +98,16 @@ module _ (s : Start) (a : Accepted s) where
   -- ---- what a loop gives of every walk that the plan's moves go along, it gives of the section's
 
   module _ (r : State) (t : StateOf s r) (m : Moves) (l l′ : List ℕ) (o : Report) where
-    pub bytes-constant : Planned (s .section) (s .processor) (Constant m) → FillsBytes m (s .section .count) (s .quota) r l l′ o → FillsBytesFrom s l l′ o
-    unfolding walkOf stridedOf
+    pub bytes-constant : Planned (s .section) (s .processor) (Constant m) → FillsBytes m (s .section .count) (s .quota) r l l′ o → FillsBlocks s l l′ o
+    unfolding blockWalk stridedOf
     bytes-constant p f x ok same =
         let d = p x ok same .2 in
-        rw (t .place) at (f (walkOf x) (sym (ap (λ (v : Strided). v .count) same)) (d .drives) (d .stands r (t .stands x ok same)))
+        rw (t .place) at (f (blockWalk x) (sym (ap (λ (v : Strided). v .count) same)) (d .drives) (d .stands r (t .stands x ok same)))
 
-    pub bytes-learnt : Planned (s .section) (s .processor) (Learnt m) → (f : Task) → f ≡ taskIn s m → FillsBytesEven f r l l′ o → FillsBytesFrom s l l′ o
-    unfolding walkOf stridedOf
+    pub bytes-learnt : Planned (s .section) (s .processor) (Learnt m) → (f : Task) → f ≡ taskIn s m → FillsBytesEven f r l l′ o → FillsBlocks s l l′ o
+    unfolding blockWalk stridedOf
     bytes-learnt p f is g x ok same =
         let d = p x ok same .2 in
         let g′ = subst (λ (z : Elements). FillsBytesEven (record { elements = z; moves = m; count = s .section .count; quota = s .quota }) r l l′ o) (ap elementsIn same)
         (subst (λ (z : Task). FillsBytesEven z r l l′ o) is g) in
-        rw (t .place) at (g′ (walkOf x) (sym (ap (λ (v : Strided). v .count) same)) (d .even) (d .stands r (t .stands x ok same)))
+        rw (t .place) at (g′ (blockWalk x) (sym (ap (λ (v : Strided). v .count) same)) (d .even) (d .stands r (t .stands x ok same)))

@@ -2,4 +2,5 @@
 pub mod SectionMoves
 pub mod Starting
 pub mod Ready
+pub mod RunFills
 pub mod Answers

@@ -8,13 +8,16 @@ use lib.Dec.{ltb, eqb}
 use lib.IntN.{ℤ, pos}
 use lib.Signed.{leZ}
 use Rattle.numbers.specs.Words.{wordsOf}
-use Rattle.model.specs.declared.Section.{Section}
+use Rattle.model.specs.Mappings.{Dealing, Section}
 use Rattle.model.specs.Ownership.{nat}
 use Rattle.model.specs.Questions.{Question, ask, firstNo, between, isBelow, ofSection, ofProcessor, ofPlace, ofQuota}
 use Rattle.model.specs.Filling.{fillBy}
 use Rattle.model.specs.Calls.{walkOf}
+use Rattle.mapping.specs.Parts.{partIn}
 use Rattle.section.specs.declared.questions.Strided.{Strided}
-use Rattle.section.specs.Strides.{stridedOf, ownedAt, Bounded}
+use Rattle.section.specs.declared.shares.Share.{Share}
+use Rattle.section.specs.Strides.{Bounded}
+use Rattle.section.specs.Shares.{shareIn, shareOf, ownedBy}
 use Rattle.walk.specs.declared.moves.Report.{Report}
 use Rattle.fill.specs.declared.ready.Start.{Start}
 use Rattle.fill.specs.declared.ready.Ready.{Ready}
@@ -24,37 +27,47 @@ use Rattle.walk.specs.Driving.{ByteFilled}
 -- ---- the questions
 
 -- a fill of an accepted section, if its questions, of which e is the first that is answered no, passed
-abbrev pub readyBy : Strided → ℤ → ℤ → ℤ → ℕ → Ready
-readyBy w q t z e =
-    cond (eqb e 0) (Go (record { section = w; processor = nat q; place = record { 0 = nat t }; quota = nat z })) (Refused e)
+abbrev pub startAt : Share → ℤ → ℤ → Start
+startAt s t z =
+    record { section = s .section; processor = s .processor; extent = s .extent; place = record { 0 = nat t }; quota = nat z }
+
+abbrev pub readyBy : Share → ℤ → ℤ → ℕ → Ready
+readyBy s t z e = cond (eqb e 0) (Go (startAt s t z)) (Refused e)
 
 unfoldable pub readyOf : Section → ℤ → ℤ → ℤ → Ready
 readyOf x q t z =
-    readyBy (stridedOf x) q t z (firstNo (ofSection x ++ ofProcessor (x .mapping) q ++ ofPlace x q t ++ ofQuota z))
+    readyBy (shareOf x (nat q)) t z (firstNo (ofSection x ++ ofProcessor (x .mapping) q ++ ofPlace x q t ++ ofQuota z))
 
--- question 10, of an accepted section
-unfoldable pub isPlaceIn : Strided → ℕ → ℤ → Bool
-isPlaceIn w q t =
-    leZ (pos 0) t && (eqb (nat t) (w .count) || (ltb (nat t) (w .count) && ownedAt w q (nat t)))
+-- question 10, of a share
+unfoldable pub isPlaceIn : Share → ℤ → Bool
+isPlaceIn s t =
+    let n : ℕ = s .section .count in
+    leZ (pos 0) t && (eqb (nat t) n || (ltb (nat t) n && ownedBy s (nat t)))
 
 -- what is left to ask of an accepted section, and the answer
-abbrev pub leftOf : Strided → ℤ → ℤ → ℤ → List Question
-leftOf w q t z =
-    ask 8 (isBelow (pos (w .layout .processors)) q)
-    ∷ ask 10 (isPlaceIn w (nat q) t)
+abbrev pub leftOf : Share → ℤ → ℤ → ℤ → List Question
+leftOf s q t z =
+    ask 8 (isBelow (pos (s .section .layout .processors)) q)
+    ∷ ask 10 (isPlaceIn s t)
     ∷ ask 11 (between (pos 3) (pos 1000000) z)
     ∷ []
 
-unfoldable pub readyIn : Strided → ℤ → ℤ → ℤ → Ready
-readyIn w q t z = readyBy w q t z (firstNo (leftOf w q t z))
+unfoldable pub readyIn : Strided → Dealing → ℤ → ℤ → ℤ → Ready
+readyIn w d q t z =
+    let s : Share = shareIn w (nat q) (partIn d (nat q)) in
+    readyBy s t z (firstNo (leftOf s q t z))
 
 -- ---- what a yes to all of them says
+
+-- the share that is filled from
+abbrev pub shareFrom : Start → Share
+shareFrom s = record { section = s .section; processor = s .processor; extent = s .extent }
 
 pub record Started (s : Start) : Type 0 where
   pub section-bounded : Bounded (s .section)
   pub processor : s .processor < s .section .layout .processors
   pub place : s .place .0 ≤ s .section .count
-  pub owned : s .place .0 < s .section .count → ownedAt (s .section) (s .processor) (s .place .0) ≡ true
+  pub owned : s .place .0 < s .section .count → ownedBy (shareFrom s) (s .place .0) ≡ true
   pub least : 3 ≤ s .quota
   pub most : s .quota ≤ 1000000
 
@@ -63,16 +76,23 @@ abbrev pub SoundReady : Ready → Type 0
 SoundReady (Go s) = Started s
 SoundReady (Refused e) = 0 < e
 
+-- it is one of an accepted section
+pub record Accepted (s : Start) : Type 0 where
+  pub started : Started s
+  pub source : Section
+  pub accepted : firstNo (ofSection source) ≡ 0
+  pub same : shareFrom s ≡ shareOf source (s .processor)
+
 -- ---- what a fill that passed them gives
 
 -- Whatever accepted section it was, the fill along its walk gives what was reported, and the list afterwards.
 abbrev pub FillsFrom : Start → List ℕ → List ℕ → Report → Type 0
 FillsFrom s l l′ r =
-    (x : Section) → firstNo (ofSection x) ≡ 0 → s .section ≡ stridedOf x
+    (x : Section) → firstNo (ofSection x) ≡ 0 → shareFrom s ≡ shareOf x (s .processor)
     → fillBy (walkOf x) (s .place .0) (s .quota) l ≡ record { entries = r .entries; tries = r .tries; place = r .place .0; list = l′ }
 
 -- the same of a list of bytes
 abbrev pub FillsBytesFrom : Start → List ℕ → List ℕ → Report → Type 0
 FillsBytesFrom s bs bs′ r =
-    (x : Section) → firstNo (ofSection x) ≡ 0 → s .section ≡ stridedOf x
+    (x : Section) → firstNo (ofSection x) ≡ 0 → shareFrom s ≡ shareOf x (s .processor)
     → ByteFilled (fillBy (walkOf x) (s .place .0) (s .quota) (wordsOf 4 bs)) bs bs′ r

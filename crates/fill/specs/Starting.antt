@@ -1,12 +1,15 @@
 -- Where a fill of an accepted section starts, and by which moves it goes. Definitions only.
 use Prim.Native.Nat.{ℕ, _<_}
 use mathlib.Core.Path.{_≡_}
-use Rattle.model.specs.declared.Section.{Section}
+use mathlib.Core.Bool.{true}
+use mathlib.Core.List.{List}
+use Rattle.numbers.specs.Words.{wordsOf}
+use Rattle.model.specs.Filling.{fillBy}
+use Rattle.model.specs.Mappings.{Section}
 use Rattle.model.specs.Sections.{layout}
 use Rattle.model.specs.Questions.{firstNo, ofSection}
-use Rattle.model.specs.Calls.{walkOf}
 use Rattle.section.specs.declared.questions.Strided.{Strided}
-use Rattle.section.specs.Strides.{stridedOf}
+use Rattle.section.specs.Strides.{stridedOf, ownedAt}
 use Rattle.walk.specs.declared.moves.Moves.{Moves}
 use Rattle.walk.specs.declared.moves.State.{State}
 use Rattle.walk.specs.declared.learning.Elements.{Elements}
@@ -15,8 +18,9 @@ use Rattle.fill.specs.declared.ready.Start.{Start}
 use Rattle.fill.specs.declared.plan.Plan.{Plan}
 use Rattle.fill.specs.declared.plan.Plan.the-variants.{Constant, Learnt}
 use Rattle.walk.specs.Moving.{Small, Still}
-use Rattle.walk.specs.Driving.{Drives, Stands}
-use Rattle.fill.specs.SectionMoves.{StandsAt, elementsOf}
+use Rattle.walk.specs.declared.moves.Report.{Report}
+use Rattle.walk.specs.Driving.{Drives, Stands, ByteFilled}
+use Rattle.fill.specs.SectionMoves.{blockWalk, StandsAt, elementsOf}
 use Rattle.walk.specs.Learning.{Even}
 use Rattle.fill.specs.Ready.{Started}
 
@@ -28,13 +32,13 @@ pub record Taken (w : Strided) : Type 0 where
 
 -- the moves drive the section's walk, in which a state at a place of processor q stands
 pub record Driven (x : Section) (q : ℕ) (m : Moves) : Type 0 where
-  pub drives : Drives (walkOf x) m
-  pub stands : (s : State) → StandsAt x q s → Stands (walkOf x) m (drives .paces) s
+  pub drives : Drives (blockWalk x) m
+  pub stands : (s : State) → StandsAt x q s → Stands (blockWalk x) m (drives .paces) s
 
 -- moves along the section's walk can be learnt, and a state at a place of processor q stands in it
 pub record Evened (x : Section) (q : ℕ) (m : Moves) : Type 0 where
-  pub even : Even (walkOf x) m (elementsOf x)
-  pub stands : (s : State) → StandsAt x q s → Stands (walkOf x) m (even .paces) s
+  pub even : Even (blockWalk x) m (elementsOf x)
+  pub stands : (s : State) → StandsAt x q s → Stands (blockWalk x) m (even .paces) s
 
 -- the plan's moves are within the limits, and go along the section's walk
 abbrev pub PlannedFor : Section → ℕ → Plan → Type 0
@@ -46,10 +50,17 @@ Planned w q p = (x : Section) → firstNo (ofSection x) ≡ 0 → w ≡ stridedO
 
 -- ---- a fill that passed its questions
 
--- it is one of an accepted section
-pub record Accepted (s : Start) : Type 0 where
+-- it is one of an accepted section, and the processor owns its place where the template is cyclic
+pub record InBlocks (s : Start) : Type 0 where
   pub started : Started s
   pub taken : Taken (s .section)
+  pub mine : s .place .0 < s .section .count → ownedAt (s .section) (s .processor) (s .place .0) ≡ true
+
+-- whatever accepted section it was, the bytes are those after the fill along its walk in blocks
+abbrev pub FillsBlocks : Start → List ℕ → List ℕ → Report → Type 0
+FillsBlocks s bs bs′ r =
+    (x : Section) → firstNo (ofSection x) ≡ 0 → s .section ≡ stridedOf x
+    → ByteFilled (fillBy (blockWalk x) (s .place .0) (s .quota) (wordsOf 4 bs)) bs bs′ r
 
 -- the elements at the section's positions
 abbrev pub elementsIn : Strided → Elements

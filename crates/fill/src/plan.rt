@@ -17,7 +17,7 @@ ghost use Rattle.fill.specs.SectionMoves.{onward, movesBy, lineMoves};
 ghost use Rattle.fill.specs.Starting.{Taken, Planned};
 
 // What is added to an address to go d on.
-fn onward_by(up: bool, d: u64) -> u64
+pub(crate) fn onward_by(up: bool, d: u64) -> u64
     ensures { λ r. ⌜ r ≡ onward up d ⌝ }
 {
     let rest = d % moves::ADDRESSES;

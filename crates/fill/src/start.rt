@@ -1,4 +1,4 @@
-// The fill of an accepted section: where it stands at its place, and the loop for its plan.
+// The fill of an accepted section in blocks: where it stands at its place, and the loop for its plan.
 use crate::plan::Plan;
 use crate::plan::plan_of;
 use crate::ready::Start;
@@ -18,8 +18,7 @@ ghost use mathlib.Core.Path.{_≡_};
 ghost use Rattle.model.specs.Ownership.{columnOf};
 ghost use Rattle.section.specs.Strides.{Bounded};
 ghost use Rattle.fill.specs.SectionMoves.{onWay};
-ghost use Rattle.fill.specs.Starting.{taskIn, Accepted, StateOf};
-ghost use Rattle.fill.specs.Ready.{FillsBytesFrom};
+ghost use Rattle.fill.specs.Starting.{taskIn, InBlocks, StateOf, FillsBlocks};
 
 // The fill along the section's elements, by moves that are learnt.
 fn task_of(s: Start, m: Moves) -> Task
@@ -55,7 +54,7 @@ fn column_of(w: Strided, c: Cell) -> u64
 
 // Where the fill stands before its first turn. At the count there is no element.
 fn state_at(s: Start) -> State
-    requires { ⌜ Accepted s ⌝ }
+    requires { ⌜ InBlocks s ⌝ }
     ensures { λ r. ⌜ StateOf s r ⌝ }
 {
     let w = s.section;
@@ -77,9 +76,9 @@ fn state_at(s: Start) -> State
 }
 
 // The fill of a list of bytes.
-pub fn fill_bytes_from(s: Start, list: &mut [u8]) -> Report
-    requires { ⌜ Accepted s ⌝ }
-    ensures { λ r. ⌜ FillsBytesFrom s (now (list .entry)) (now (list .exit)) r ⌝ }
+pub fn fill_blocks(s: Start, list: &mut [u8]) -> Report
+    requires { ⌜ InBlocks s ⌝ }
+    ensures { λ r. ⌜ FillsBlocks s (now (list .entry)) (now (list .exit)) r ⌝ }
 {
     let w = s.section;
     let state = state_at(s);

@@ -1,34 +1,18 @@
 // Fills of a list of 32-bit words. The loops along a walk fill bytes; a list of words is
 // filled chunk by chunk, each by a fill of bytes.
 use crate::ready::Start;
-use crate::start::fill_bytes_from;
+use crate::runs::fill_bytes_from;
+use numbers::words::word_at;
 use walk::moves::Report;
 ghost use mathlib.Core.Path.{_≡_};
 ghost use mathlib.Core.List.{_++_};
 ghost use Prim.Native.Nat.{_+_, _*_, _/_, _≤_, _<_};
-ghost use lib.ListN.{length, getD, take, drop};
+ghost use lib.ListN.{length, take, drop};
 ghost use Rattle.numbers.specs.Words.{wordsOf};
-ghost use Rattle.fill.specs.Starting.{Accepted};
-ghost use Rattle.fill.specs.Ready.{FillsFrom};
+ghost use Rattle.fill.specs.Ready.{Accepted, FillsFrom};
 
 // The most entries of a chunk, whose bytes a local array holds.
 const CHUNK: usize = 1024;
-
-// The word of 4 bytes, lowest first.
-fn word_of(a: u8, b: u8, c: u8, d: u8) -> u32
-    ensures { λ r. ⌜ r ≡ a + 256 * b + 65536 * c + 16777216 * d ⌝ }
-{
-    a as u32 + 256 * (b as u32) + 65536 * (c as u32) + 16777216 * (d as u32)
-}
-
-// The word at entry n.
-fn word_at(bytes: &[u8], n: usize) -> u32
-    requires { ⌜ n < length (now bytes) / 4 ⌝ }
-    ensures { λ r. ⌜ r ≡ getD (wordsOf 4 (now (bytes .entry))) n 0 ⌝ }
-{
-    let at = 4 * n;
-    word_of(bytes[at], bytes[at + 1], bytes[at + 2], bytes[at + 3])
-}
 
 // The first n words, put into a list.
 fn put_words(bytes: &[u8], n: usize, list: &mut [u32])
@@ -80,6 +64,7 @@ pub fn fill_from(s: Start, list: &mut [u32]) -> Report
     ensures { λ r. ⌜ FillsFrom s (now (list .entry)) (now (list .exit)) r ⌝ }
 {
     let w = s.section;
+    let extent = s.extent;
     let mut place = s.place;
     let mut paid: u64 = 0;
     let mut n: usize = 0;
@@ -93,6 +78,7 @@ pub fn fill_from(s: Start, list: &mut [u32]) -> Report
         let chunk = Start {
             section: w,
             processor: s.processor,
+            extent,
             place: place,
             quota: s.quota - paid,
         };

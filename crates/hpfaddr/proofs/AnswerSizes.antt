@@ -10,7 +10,7 @@ use lib.IntN.{ℤ, pos}
 use borrow.Author.Tests.{eqb-true}
 use Rattle.numbers.proofs.SearchLaws.{tally-le, head-le}
 use Rattle.numbers.proofs.Signed.{size-neg}
-use Rattle.model.specs.declared.Section.{Section}
+use Rattle.model.specs.Mappings.{Section}
 use Rattle.model.specs.declared.Step.{Step}
 use Rattle.model.specs.declared.Steps.{Steps}
 use Rattle.model.specs.declared.Steps.the-variants.{NoStep, OneStep, TwoSteps}
@@ -86,7 +86,7 @@ pub fill-small : (c : FillCall) → FilledFits (reportOf (fill c))
 unfolding fill answer requestOf
 fill-small c =
     let w = fill-bounds c in
-    (omega (arith, refusal-le 15 (ofFill c) refl), omega (arith, w .entries, w .tries), omega (arith, w .tries), place-small c)
+    (omega (arith, refusal-le 16 (ofFill c) refl), omega (arith, w .entries, w .tries), omega (arith, w .tries), place-small c)
 
 -- ---- transfers
 

@@ -1,6 +1,6 @@
 -- Whether the numbers of an answer fit the fields that the C header declares. They are signed there, `int32_t` and in
 -- `hpf_steps` `int64_t`, so that the highest bit stays free. Definitions only.
-use Prim.Native.Nat.{ℕ, _^_, _≤_, _<_}
+use Prim.Native.Nat.{ℕ, _^_, _<_}
 use lib.IntN.{ℤ, natAbs}
 use Rattle.model.specs.Calls.{OwnershipAnswer, GoingBackAnswer, LocalCountAnswer, StepReport, SectionStepsAnswer, PlaceAnswer}
 use Rattle.model.specs.Transfers.{TransferAnswer}
@@ -14,13 +14,9 @@ In32 n = n < 2 ^ 31
 abbrev pub In64 : ℕ → Type 0
 In64 n = n < 2 ^ 63
 
--- a declared index, which may be negative
+-- a declared index or a column move, which may be negative
 abbrev pub Signed32 : ℤ → Type 0
 Signed32 z = natAbs z < 2 ^ 31
-
--- a column move, up or down: it stays in the largest block
-abbrev pub InBlock : ℤ → Type 0
-InBlock y = natAbs y ≤ 65535
 
 abbrev pub OwnedFits : OwnershipAnswer → Type 0
 OwnedFits a = In32 (a .refusal) × In32 (a .processor) × In32 (a .address)
@@ -32,7 +28,7 @@ abbrev pub CountedFits : LocalCountAnswer → Type 0
 CountedFits a = In32 (a .refusal) × In32 (a .elements)
 
 abbrev pub StepFits : StepReport → Type 0
-StepFits r = In64 (r .cells) × In64 (r .courses) × InBlock (r .column)
+StepFits r = In64 (r .cells) × In64 (r .courses) × Signed32 (r .column)
 
 abbrev pub StepsFit : SectionStepsAnswer → Type 0
 StepsFit a = In64 (a .refusal) × In64 (a .count) × In64 (a .steps) × StepFits (a .first) × StepFits (a .second)

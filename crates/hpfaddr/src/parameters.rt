@@ -1,7 +1,8 @@
 // The mapping and the section that a C function's numbers make.
 ghost use mathlib.Core.Path.{_≡_};
-ghost use Rattle.mapping.specs.Answers.{mappingOf};
-ghost use Rattle.hpfaddr.specs.Fields.{sectionFrom};
+ghost use Rattle.section.specs.Strides.{tripletOf};
+ghost use Rattle.hpfaddr.specs.Fields.{numbersOf};
+use model::Dealing;
 use model::Mapping;
 use model::Section;
 use model::Triplet;
@@ -9,19 +10,19 @@ use model::Triplet;
 pub fn mapping_of(
     cells: i64,
     processors: i64,
-    block: i64,
+    dealing: Dealing,
     stride: i64,
     offset: i64,
     size: i64,
     array_lower: i64,
     template_lower: i64,
 ) -> Mapping
-    ensures { λ r. ⌜ r ≡ mappingOf cells processors block stride offset size «array_lower» «template_lower» ⌝ }
+    ensures { λ r. ⌜ r ≡ numbersOf cells processors dealing stride offset size «array_lower» «template_lower» ⌝ }
 {
     Mapping {
         cells,
         processors,
-        block,
+        dealing,
         stride,
         offset,
         size,
@@ -30,31 +31,9 @@ pub fn mapping_of(
     }
 }
 
-pub fn section_of(
-    cells: i64,
-    processors: i64,
-    block: i64,
-    stride: i64,
-    offset: i64,
-    size: i64,
-    array_lower: i64,
-    template_lower: i64,
-    lower: i64,
-    upper: i64,
-    step: i64,
-) -> Section
-    ensures { λ r. ⌜ r ≡ sectionFrom cells processors block stride offset size «array_lower» «template_lower» lower upper step ⌝ }
+pub fn section_of(mapping: Mapping, lower: i64, upper: i64, step: i64) -> Section
+    ensures { λ r. ⌜ r ≡ record { mapping = mapping; triplet = tripletOf lower upper step } ⌝ }
 {
-    let mapping = mapping_of(
-        cells,
-        processors,
-        block,
-        stride,
-        offset,
-        size,
-        array_lower,
-        template_lower,
-    );
     let triplet = Triplet {
         lower,
         upper,

@@ -1,12 +1,16 @@
 // The C functions of sections and fills.
 ghost use mathlib.Core.Path.{_≡_};
+ghost use Rattle.model.specs.Mappings.{cyclic, sectionWith};
 ghost use Rattle.model.specs.Calls.{noReport, sectionSteps, firstPlaceAt};
 ghost use Rattle.section.specs.Answers.{stepAs};
 ghost use Rattle.fill.specs.Answers.{reportAs};
-ghost use Rattle.hpfaddr.specs.Fields.{stepsFields, placedFields, sectionFrom, filledFields, FilledFields};
+ghost use Rattle.hpfaddr.specs.Fields.{stepsFields, placedFields, sectionFrom, fillOf, filledFields, FilledFields};
 ghost use Rattle.hpfaddr.specs.Sizes.{StepsFit, PlacedFits, FilledFits};
+use crate::parameters::mapping_of;
 use crate::parameters::section_of;
 use fill::Filled;
+use model::Dealing;
+use model::Section;
 use section::place::Placed;
 use section::report::Reported;
 use section::report::SectionSteps;
@@ -64,6 +68,18 @@ fn no_step(refusal: u32, count: u64) -> HpfSteps
     }
 }
 
+pub(crate) fn steps_of(x: Section, sizes: &[u8]) -> HpfSteps
+    ensures { λ r. ⌜ stepsFields r ≡ sectionSteps (sectionWith x (now (sizes .entry))) ⌝ }
+    ensures { λ r. ⌜ StepsFit (stepsFields r) ⌝ }
+{
+    match section::section_steps(x, sizes) {
+        SectionSteps::NoStep(n) => no_step(0, n),
+        SectionSteps::OneStep(n, r) => step_fields(n, 1, r, NOT_THERE),
+        SectionSteps::TwoSteps(n, r, w) => step_fields(n, 2, r, w),
+        SectionSteps::Refused(e) => no_step(e, 0),
+    }
+}
+
 // The count of a section and its steps: the processor step, or the one step, and the
 // return step, whose column move is negative.
 #[no_mangle]
@@ -80,34 +96,45 @@ pub extern "C" fn hpf_section_steps(
     upper: i64,
     step: i64,
 ) -> HpfSteps
-    ensures { λ r. ⌜ stepsFields r ≡ sectionSteps (sectionFrom cells processors block stride offset size «array_lower» «template_lower» lower upper step) ⌝ }
+    ensures { λ r. ⌜ stepsFields r ≡ sectionSteps (sectionFrom cells processors (cyclic block) stride offset size «array_lower» «template_lower» lower upper step) ⌝ }
     ensures { λ r. ⌜ StepsFit (stepsFields r) ⌝ }
 {
-    let x = section_of(
+    let d = Dealing::Cyclic(block);
+    let m = mapping_of(
         cells,
         processors,
-        block,
+        d,
         stride,
         offset,
         size,
         array_lower,
         template_lower,
-        lower,
-        upper,
-        step,
     );
-    match section::section_steps(x) {
-        SectionSteps::NoStep(n) => no_step(0, n),
-        SectionSteps::OneStep(n, r) => step_fields(n, 1, r, NOT_THERE),
-        SectionSteps::TwoSteps(n, r, w) => step_fields(n, 2, r, w),
-        SectionSteps::Refused(e) => no_step(e, 0),
-    }
+    let none = [0u8; 0];
+    let x = section_of(m, lower, upper, step);
+    steps_of(x, &none)
 }
 
 #[repr(C)]
 pub struct HpfPlaced {
     pub refusal: u32,
     pub place: u32,
+}
+
+pub(crate) fn placed_of(x: Section, sizes: &[u8], processor: i64) -> HpfPlaced
+    ensures { λ r. ⌜ placedFields r ≡ firstPlaceAt (sectionWith x (now (sizes .entry))) processor ⌝ }
+    ensures { λ r. ⌜ PlacedFits (placedFields r) ⌝ }
+{
+    match section::first_place(x, sizes, processor) {
+        Placed::At(t) => HpfPlaced {
+            refusal: 0,
+            place: t.0 as u32,
+        },
+        Placed::Refused(e) => HpfPlaced {
+            refusal: e,
+            place: 0,
+        },
+    }
 }
 
 // The lowest position whose element a processor owns, or the count.
@@ -126,32 +153,23 @@ pub extern "C" fn hpf_first_place(
     step: i64,
     processor: i64,
 ) -> HpfPlaced
-    ensures { λ r. ⌜ placedFields r ≡ firstPlaceAt (sectionFrom cells processors block stride offset size «array_lower» «template_lower» lower upper step) processor ⌝ }
+    ensures { λ r. ⌜ placedFields r ≡ firstPlaceAt (sectionFrom cells processors (cyclic block) stride offset size «array_lower» «template_lower» lower upper step) processor ⌝ }
     ensures { λ r. ⌜ PlacedFits (placedFields r) ⌝ }
 {
-    let x = section_of(
+    let d = Dealing::Cyclic(block);
+    let m = mapping_of(
         cells,
         processors,
-        block,
+        d,
         stride,
         offset,
         size,
         array_lower,
         template_lower,
-        lower,
-        upper,
-        step,
     );
-    match section::first_place(x, processor) {
-        Placed::At(t) => HpfPlaced {
-            refusal: 0,
-            place: t.0 as u32,
-        },
-        Placed::Refused(e) => HpfPlaced {
-            refusal: e,
-            place: 0,
-        },
-    }
+    let none = [0u8; 0];
+    let x = section_of(m, lower, upper, step);
+    placed_of(x, &none, processor)
 }
 
 #[repr(C)]
@@ -182,6 +200,20 @@ fn fields_of(f: Filled) -> HpfFilled
     }
 }
 
+pub(crate) fn filled_of(
+    x: Section,
+    sizes: &[u8],
+    processor: i64,
+    place: i64,
+    quota: i64,
+    list: &mut [u8],
+) -> HpfFilled
+    ensures { λ r. ⌜ FilledFields (fillOf (sectionWith x (now (sizes .entry))) processor place quota (now (list .entry))) (now (list .exit)) r ⌝ }
+    ensures { λ r. ⌜ FilledFits (filledFields r) ⌝ }
+{
+    fields_of(fill::fill_into_bytes(x, sizes, processor, place, quota, list))
+}
+
 // A fill of a list of bytes, 4 to an address, lowest first.
 #[no_mangle]
 pub extern "C" fn hpf_fill(
@@ -201,21 +233,21 @@ pub extern "C" fn hpf_fill(
     quota: i64,
     list: &mut [u8],
 ) -> HpfFilled
-    ensures { λ r. ⌜ FilledFields (sectionFrom cells processors block stride offset size «array_lower» «template_lower» lower upper step) processor place quota (now (list .entry)) (now (list .exit)) r ⌝ }
+    ensures { λ r. ⌜ FilledFields (fillOf (sectionFrom cells processors (cyclic block) stride offset size «array_lower» «template_lower» lower upper step) processor place quota (now (list .entry))) (now (list .exit)) r ⌝ }
     ensures { λ r. ⌜ FilledFits (filledFields r) ⌝ }
 {
-    let x = section_of(
+    let d = Dealing::Cyclic(block);
+    let m = mapping_of(
         cells,
         processors,
-        block,
+        d,
         stride,
         offset,
         size,
         array_lower,
         template_lower,
-        lower,
-        upper,
-        step,
     );
-    fields_of(fill::fill_into_bytes(x, processor, place, quota, list))
+    let none = [0u8; 0];
+    let x = section_of(m, lower, upper, step);
+    filled_of(x, &none, processor, place, quota, list)
 }

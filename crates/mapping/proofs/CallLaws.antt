@@ -7,14 +7,15 @@ use native.Mathlib.Omega.{arith}
 use lib.Dec.{eqb}
 use lib.IntN.{ℤ, pos, _+ℤ_, _-ℤ_}
 use borrow.Author.Tests.{eqb-true, eqb-false, ne-eqb}
-use Rattle.model.specs.declared.Mapping.{Mapping}
+use Rattle.model.specs.Mappings.{Dealing, cyclic, genBlock, Mapping}
 use Rattle.model.specs.declared.Layout.{Layout}
-use Rattle.model.specs.Ownership.{nat, lastIndex, fromLower, declaredIndex, layoutOf, ownerOf, held}
-use Rattle.model.specs.Questions.{Question, firstNo, between, isBelow, isIndex, ofMapping, ofProcessor, ofIndex, ofAddress}
+use Rattle.model.specs.Ownership.{nat, lastIndex, fromLower, declaredIndex, layoutOf, owner, held}
+use Rattle.model.specs.Questions.{Question, firstNo, runsFit, sizesFit, between, isBelow, isIndex, ofMapping, ofProcessor, ofIndex, ofAddress}
 use Rattle.model.specs.Calls.{ownership, goingBack, localCount}
 use Rattle.model.proofs.QuestionLaws.{all-yes, asks-on, stops}
 use Rattle.model.proofs.AcceptedLaws.{whole-mapping}
 use Rattle.mapping.specs.declared.questions.Mapped.the-variants.{By, Refused}
+use Rattle.mapping.specs.Parts.{ownerFor, Listed}
 use Rattle.mapping.specs.Answers.{mappedOf, noOwner, notFound, notCounted, ownershipIn, goingBackIn, localCountIn}
 
 module _ (m : Mapping) where
@@ -85,32 +86,41 @@ module _ (m : Mapping) where
     unfolding layoutOf
     same-processors q = ap (λ (z : ℤ). isBelow z q) (whole-mapping m none .processors)
 
-    pub ownership-by : (j : ℤ) → ownershipIn l low j ≡ ownership m j
-    unfolding ownershipIn ownership firstNo fromLower layoutOf
+    -- its list passed question 16
+    pub listed-by : Listed l (m .dealing)
+    unfolding sizesFit nat layoutOf
+    listed-by = rw (passed l low e .layout) (go (m .dealing) (all-yes (ofMapping m) refl none .1 .1 .1 .0))
+      where
+        go : (d : Dealing) → runsFit (m .cells) (m .processors) d ≡ true → runsFit (pos (nat (m .cells))) (pos (nat (m .processors))) d ≡ true
+        go (cyclic k) f = refl
+        go (genBlock sizes left) f = f
+
+    pub ownership-by : (j : ℤ) → ownershipIn (ownerFor l (m .dealing)) l low j ≡ ownership m j
+    unfolding owner ownershipIn ownership firstNo fromLower layoutOf
     ownership-by j =
         rw (passed l low e .layout, passed l low e .lower) (go (between (m .lower) (m .lower +ℤ pos (nat (m .size)) -ℤ pos 1) j) refl)
       where
         go : (b : Bool) → between (m .lower) (m .lower +ℤ pos (nat (m .size)) -ℤ pos 1) j ≡ b
-            → ownershipIn (layoutOf m) (m .lower) j ≡ ownership m j
+            → ownershipIn (owner m) (layoutOf m) (m .lower) j ≡ ownership m j
         go true p = rw (asked-on (ofIndex m j), same-index j, p)
         go false p = rw (asked-on (ofIndex m j), same-index j, p)
 
-    pub local-count-by : (q : ℤ) → localCountIn l q ≡ localCount m q
-    unfolding localCountIn localCount firstNo layoutOf
+    pub local-count-by : (q : ℤ) → localCountIn (ownerFor l (m .dealing)) l q ≡ localCount m q
+    unfolding owner localCountIn localCount firstNo layoutOf
     local-count-by q = rw (passed l low e .layout) (go (isBelow (pos (nat (m .processors))) q) refl)
       where
-        go : (b : Bool) → isBelow (pos (nat (m .processors))) q ≡ b → localCountIn (layoutOf m) q ≡ localCount m q
+        go : (b : Bool) → isBelow (pos (nat (m .processors))) q ≡ b → localCountIn (owner m) (layoutOf m) q ≡ localCount m q
         go true p = rw (asked-on (ofProcessor m q), same-processors q, p)
         go false p = rw (asked-on (ofProcessor m q), same-processors q, p)
 
-    pub going-back-by : (q x : ℤ) → goingBackIn l low q x ≡ goingBack m q x
-    unfolding goingBackIn goingBack firstNo declaredIndex layoutOf
+    pub going-back-by : (q x : ℤ) → goingBackIn (ownerFor l (m .dealing)) l low q x ≡ goingBack m q x
+    unfolding owner goingBackIn goingBack firstNo declaredIndex layoutOf
     going-back-by q x =
         rw (passed l low e .layout, passed l low e .lower)
-        (go (isBelow (pos (nat (m .processors))) q) refl (isBelow (pos (held (ownerOf (layoutOf m)) (nat (m .size)) (nat q))) x) refl)
+        (go (isBelow (pos (nat (m .processors))) q) refl (isBelow (pos (held (owner m) (nat (m .size)) (nat q))) x) refl)
       where
         go : (b : Bool) → isBelow (pos (nat (m .processors))) q ≡ b
-            → (c : Bool) → isBelow (pos (held (ownerOf (layoutOf m)) (nat (m .size)) (nat q))) x ≡ c → goingBackIn (layoutOf m) (m .lower) q x ≡ goingBack m q x
+            → (c : Bool) → isBelow (pos (held (owner m) (nat (m .size)) (nat q))) x ≡ c → goingBackIn (owner m) (layoutOf m) (m .lower) q x ≡ goingBack m q x
         go true p true r = rw (asked-on (ofProcessor m q ++ ofAddress m q x), same-processors q, p, r)
         go true p false r = rw (asked-on (ofProcessor m q ++ ofAddress m q x), same-processors q, p, r)
         go false p c r = rw (asked-on (ofProcessor m q ++ ofAddress m q x), same-processors q, p)

@@ -3,4 +3,6 @@ pub mod Signs
 pub mod Refusals
 pub mod CourseSums
 pub mod CellLaws
+pub mod SizeLaws
+pub mod PartLaws
 pub mod CallLaws

@@ -1,19 +1,26 @@
 -- The sign of a number, the natural number that it is, and what the machine's answers say of a parameter.
-use Prim.Native.Nat.{ℕ, zero-le, _≤_, _<_}
+use Prim.Native.Nat.{ℕ, suc, zero-le, _≤_, _<_}
 use mathlib.Core.Path.{_≡_, refl, sym, _∙_}
 use mathlib.Core.Bool.{Bool, true, false, not, false≢true}
+use native.Mathlib.Nat.{le-refl}
 use native.Mathlib.Omega.{arith}
-use borrow.Author.Tests.{ltb-true, le-leb, not-true, not-false}
-use lib.Dec.{T, ltb}
+use borrow.Author.Tests.{ne-eqb, ltb-true, le-leb, not-true, not-false}
+use lib.Dec.{T, eqb, ltb}
 use lib.IntN.{ℤ, pos, negsuc, natAbs}
 use lib.Signed.{ltZ, nonNeg}
 use mir.Syntax.{w64}
-use mir.Val.{SFits}
+use mir.Val.{SFits, ofZ}
 use mir.ValLaws.{toZ-ofZ}
 use Rattle.numbers.proofs.Signed.{small-fits, back, read-of}
 use Rattle.model.specs.Ownership.{nat}
 use Rattle.model.specs.Questions.{isBelow}
 use Rattle.model.proofs.QuestionLaws.{below-is}
+
+-- a test of the bits for 0
+pub zero-bits : (z : ℤ) → SFits w64 z → eqb (ofZ w64 z) 0 ≡ eqb (natAbs z) 0
+zero-bits (pos n) f = refl
+zero-bits (negsuc n) f =
+    ne-eqb (ofZ w64 (negsuc n)) 0 (λ e. omega (arith, f .sfits)) ∙ sym (ne-eqb (suc n) 0 (λ e. omega arith))
 
 pub below : (z : ℤ) → ltZ z (pos 0) ≡ true → 0 ≡ nat z
 unfolding nat
@@ -28,6 +35,11 @@ pub kept : (z : ℤ) → ltZ z (pos 0) ≡ false → natAbs z ≡ nat z
 unfolding nat
 kept (pos n) e = refl
 kept (negsuc n) e = absurd (false≢true (sym e))
+
+pub natural-le : (z : ℤ) → nat z ≤ natAbs z
+unfolding nat
+natural-le (pos n) = le-refl n
+natural-le (negsuc n) = zero-le
 
 -- a negative number is below nothing that is counted from 0, and any other is compared as it is
 pub negative-outside : (z : ℤ) (n : ℕ) → ltZ z (pos 0) ≡ true → false ≡ isBelow (pos n) z

@@ -4,10 +4,10 @@ use mathlib.Core.Bool.{cond, _&&_}
 use mathlib.Core.List.{List, [], _∷_}
 use lib.Dec.{eqb}
 use lib.IntN.{ℤ, pos, natAbs, _+ℤ_, _-ℤ_}
-use Rattle.model.specs.declared.Mapping.{Mapping}
+use Rattle.model.specs.Mappings.{Dealing, Mapping}
 use Rattle.model.specs.declared.Layout.{Layout}
-use Rattle.model.specs.Ownership.{nat, layoutOf, ownerOf, rank, held, backTo}
-use Rattle.model.specs.Questions.{Question, ask, between, isBelow, most, least, firstNo, ofMapping}
+use Rattle.model.specs.Ownership.{nat, layoutOf, rank, held, backTo}
+use Rattle.model.specs.Questions.{Question, ask, between, isBelow, most, least, blockFits, runsFit, firstNo, ofMapping}
 use Rattle.model.specs.Calls.{OwnershipAnswer, GoingBackAnswer, LocalCountAnswer}
 use Rattle.model.specs.Sized.{Sized}
 use Rattle.mapping.specs.declared.questions.Mapped.{Mapped}
@@ -19,17 +19,22 @@ use Rattle.mapping.specs.declared.Found.the-variants as found
 use Rattle.mapping.specs.declared.Counted.{Counted}
 use Rattle.mapping.specs.declared.Counted.the-variants as counted
 
--- T p k a b n La Lt as a mapping
-abbrev pub mappingOf : ℤ → ℤ → ℤ → ℤ → ℤ → ℤ → ℤ → ℤ → Mapping
-mappingOf t p k a b n lower origin =
-    record { cells = t; processors = p; block = k; stride = a; offset = b; size = n; lower = lower; origin = origin }
+-- T p, the dealing, a b n La Lt as a mapping
+abbrev pub mappingOf : ℤ → ℤ → Dealing → ℤ → ℤ → ℤ → ℤ → ℤ → Mapping
+mappingOf t p d a b n lower origin =
+    record { cells = t; processors = p; dealing = d; stride = a; offset = b; size = n; lower = lower; origin = origin }
 
--- questions 1 to 4
-abbrev pub ofDealing : ℤ → ℤ → ℤ → ℤ → ℤ → List Question
-ofDealing t p k a b =
+-- 3 or 16
+abbrev pub ofDealt : ℤ → ℤ → Dealing → List Question
+ofDealt t p d = ask 3 (blockFits d) ∷ ask 16 (runsFit t p d) ∷ []
+
+-- questions 1 to 4 and 16
+abbrev pub ofDealing : ℤ → ℤ → Dealing → ℤ → ℤ → List Question
+ofDealing t p d a b =
     ask 1 (between (pos 1) most t)
     ∷ ask 2 (between (pos 1) (pos 1024) p)
-    ∷ ask 3 (between (pos 1) (pos 65536) k)
+    ∷ ask 3 (blockFits d)
+    ∷ ask 16 (runsFit t p d)
     ∷ ask 4 (between (pos 1) most a && between least most b)
     ∷ []
 
@@ -75,21 +80,21 @@ abbrev pub countedAs : Counted → LocalCountAnswer
 countedAs (counted.Elements n) = record { refusal = 0; elements = n }
 countedAs (counted.Refused e) = notCounted e
 
--- ---- what is left to ask of an accepted layout, and the answer
+-- ---- what is left to ask of an accepted layout, and the answer, by the owner of each index
 
-unfoldable pub ownershipIn : Layout → ℤ → ℤ → OwnershipAnswer
-ownershipIn l lower j =
+unfoldable pub ownershipIn : (ℕ → ℕ) → Layout → ℤ → ℤ → OwnershipAnswer
+ownershipIn owner l lower j =
     let i = nat (j -ℤ lower) in
     cond (between lower (lower +ℤ pos (l .size) -ℤ pos 1) j)
-    (record { refusal = 0; processor = ownerOf l i; address = rank (ownerOf l) i })
+    (record { refusal = 0; processor = owner i; address = rank owner i })
     (noOwner 9)
 
-unfoldable pub goingBackIn : Layout → ℤ → ℤ → ℤ → GoingBackAnswer
-goingBackIn l lower q x =
-    let j = lower +ℤ pos (backTo (ownerOf l) (l .size) (nat q) (nat x)) in
-    let asked = cond (isBelow (pos (held (ownerOf l) (l .size) (nat q))) x) (record { refusal = 0; index = j }) (notFound 9) in
+unfoldable pub goingBackIn : (ℕ → ℕ) → Layout → ℤ → ℤ → ℤ → GoingBackAnswer
+goingBackIn owner l lower q x =
+    let j = lower +ℤ pos (backTo owner (l .size) (nat q) (nat x)) in
+    let asked = cond (isBelow (pos (held owner (l .size) (nat q))) x) (record { refusal = 0; index = j }) (notFound 9) in
     cond (isBelow (pos (l .processors)) q) asked (notFound 8)
 
-unfoldable pub localCountIn : Layout → ℤ → LocalCountAnswer
-localCountIn l q =
-    cond (isBelow (pos (l .processors)) q) (record { refusal = 0; elements = held (ownerOf l) (l .size) (nat q) }) (notCounted 8)
+unfoldable pub localCountIn : (ℕ → ℕ) → Layout → ℤ → LocalCountAnswer
+localCountIn owner l q =
+    cond (isBelow (pos (l .processors)) q) (record { refusal = 0; elements = held owner (l .size) (nat q) }) (notCounted 8)

@@ -1,16 +1,20 @@
 // Ownership, going back and local counts of an array that is aligned to a template dealt in
-// blocks. The questions about a mapping are put in questions.rt, the arithmetic of an
-// accepted one stands in dealing.rt; here are the calls, which take whatever numbers.
+// blocks or in runs. The questions about a mapping are put in questions.rt and, about a list of
+// sizes, in runs.rt; the arithmetic of an accepted one stands in dealing.rt, and in parts.rt what
+// goes by the dealing. Here are the calls, which take whatever numbers and list.
 pub mod dealing;
+pub mod parts;
 pub mod questions;
+pub mod runs;
 
 ghost use mathlib.Core.Path.{_≡_};
-ghost use Rattle.model.specs.Ownership.{ownerOf, held};
+ghost use Rattle.model.specs.Mappings.{dealingWith, mappingWith};
 ghost use Rattle.model.specs.Sized.{Sized};
 ghost use Rattle.model.specs.Calls.{ownership, goingBack, localCount};
 ghost use Rattle.mapping.specs.Answers.{Ranged, ownedAs, foundAs, countedAs, ownershipIn, goingBackIn, localCountIn};
-ghost use Rattle.mapping.specs.Bounds.{Dealt};
+ghost use Rattle.mapping.specs.Parts.{ownerFor, Listed};
 use model::Address;
+use model::Dealing;
 use model::Declared;
 use model::Index;
 use model::Layout;
@@ -24,40 +28,33 @@ pub enum Owned {
 }
 
 // Question 9, and the answer of an accepted layout whose first index is lower.
-fn owned_in(l: Layout, lower: i64, index: i64) -> Owned
+fn owned_in(l: Layout, lower: i64, d: Dealing, sizes: &[u8], index: i64) -> Owned
     requires { ⌜ Ranged l lower ⌝ }
-    ensures { λ r. ⌜ ownedAs r ≡ ownershipIn l lower index ⌝ }
+    requires { ⌜ Listed l (dealingWith d (now sizes)) ⌝ }
+    ensures { λ r. ⌜ ownedAs r ≡ ownershipIn (ownerFor l (dealingWith d (now (sizes .entry)))) l lower index ⌝ }
 {
     let last = questions::last_of(lower, l.size as i64);
     if !questions::within(lower, last, index) {
         return Owned::Refused(9);
     }
     let i = Index(questions::natural(index - lower));
+    let home = parts::home_of(l, d, sizes, i);
+    let address = home.address;
     Owned::At {
-        processor: dealing::owner_of(l, dealing::cell_of(l, i)),
-        address: dealing::local_address(l, i),
+        processor: home.processor,
+        address: address,
     }
 }
 
-pub fn ownership(m: Mapping, index: i64) -> Owned
-    ensures { λ r. ⌜ ownedAs r ≡ ownership m index ⌝ }
+pub fn ownership(m: Mapping, sizes: &[u8], index: i64) -> Owned
+    ensures { λ r. ⌜ ownedAs r ≡ ownership (mappingWith m (now (sizes .entry))) index ⌝ }
 {
-    let asked = questions::ask_mapping(m);
+    let asked = questions::ask_mapping(m, sizes);
     let Mapped::By(l, lower) = asked else {
         return Owned::Refused(questions::refusal_of(asked));
     };
-    owned_in(l, lower, index)
-}
-
-// How many elements processor q has. An array of none has no cell to count from.
-pub fn elements_on(l: Layout, q: u64) -> u64
-    requires { ⌜ Dealt l q ⌝ }
-    ensures { λ r. ⌜ r ≡ held (ownerOf l) (l .size) q ⌝ }
-{
-    if l.size == 0 {
-        return 0;
-    }
-    dealing::held_below(l, q, Index(l.size))
+    let d = m.dealing;
+    owned_in(l, lower, d, sizes, index)
 }
 
 // The element at an address of a processor, or the refusal.
@@ -67,32 +64,35 @@ pub enum Found {
 }
 
 // Questions 8 and 9, and the answer of an accepted layout whose first index is lower.
-fn found_in(l: Layout, lower: i64, processor: i64, address: i64) -> Found
+fn found_in(l: Layout, lower: i64, d: Dealing, sizes: &[u8], processor: i64, address: i64) -> Found
     requires { ⌜ Ranged l lower ⌝ }
-    ensures { λ r. ⌜ foundAs r ≡ goingBackIn l lower processor address ⌝ }
+    requires { ⌜ Listed l (dealingWith d (now sizes)) ⌝ }
+    ensures { λ r. ⌜ foundAs r ≡ goingBackIn (ownerFor l (dealingWith d (now (sizes .entry)))) l lower processor address ⌝ }
 {
     let processors = l.processors;
     if !questions::is_below(processor, processors) {
         return Found::Refused(8);
     }
     let q = questions::natural(processor);
-    let elements = elements_on(l, q);
+    let part = parts::part_of(l, d, sizes, q);
+    let elements = parts::elements_in(l, q, part);
     if !questions::is_below(address, elements) {
         return Found::Refused(9);
     }
     let x = Address(questions::natural(address));
-    let i = dealing::element_at(l, q, x);
+    let i = parts::element_in(l, q, part, x);
     Found::At(Declared(lower + (i.0 as i64)))
 }
 
-pub fn going_back(m: Mapping, processor: i64, address: i64) -> Found
-    ensures { λ r. ⌜ foundAs r ≡ goingBack m processor address ⌝ }
+pub fn going_back(m: Mapping, sizes: &[u8], processor: i64, address: i64) -> Found
+    ensures { λ r. ⌜ foundAs r ≡ goingBack (mappingWith m (now (sizes .entry))) processor address ⌝ }
 {
-    let asked = questions::ask_mapping(m);
+    let asked = questions::ask_mapping(m, sizes);
     let Mapped::By(l, lower) = asked else {
         return Found::Refused(questions::refusal_of(asked));
     };
-    found_in(l, lower, processor, address)
+    let d = m.dealing;
+    found_in(l, lower, d, sizes, processor, address)
 }
 
 // How many elements a processor holds, or the refusal.
@@ -102,24 +102,27 @@ pub enum Counted {
 }
 
 // Question 8, and the answer of an accepted layout.
-fn counted_in(l: Layout, processor: i64) -> Counted
+fn counted_in(l: Layout, d: Dealing, sizes: &[u8], processor: i64) -> Counted
     requires { ⌜ Sized l ⌝ }
-    ensures { λ r. ⌜ countedAs r ≡ localCountIn l processor ⌝ }
+    requires { ⌜ Listed l (dealingWith d (now sizes)) ⌝ }
+    ensures { λ r. ⌜ countedAs r ≡ localCountIn (ownerFor l (dealingWith d (now (sizes .entry)))) l processor ⌝ }
 {
     let processors = l.processors;
     if !questions::is_below(processor, processors) {
         return Counted::Refused(8);
     }
     let q = questions::natural(processor);
-    Counted::Elements(elements_on(l, q))
+    let part = parts::part_of(l, d, sizes, q);
+    Counted::Elements(parts::elements_in(l, q, part))
 }
 
-pub fn local_count(m: Mapping, processor: i64) -> Counted
-    ensures { λ r. ⌜ countedAs r ≡ localCount m processor ⌝ }
+pub fn local_count(m: Mapping, sizes: &[u8], processor: i64) -> Counted
+    ensures { λ r. ⌜ countedAs r ≡ localCount (mappingWith m (now (sizes .entry))) processor ⌝ }
 {
-    let asked = questions::ask_mapping(m);
+    let asked = questions::ask_mapping(m, sizes);
     let Mapped::By(l, _) = asked else {
         return Counted::Refused(questions::refusal_of(asked));
     };
-    counted_in(l, processor)
+    let d = m.dealing;
+    counted_in(l, d, sizes, processor)
 }

@@ -1,12 +1,16 @@
-// Questions 1 to 5 and 15, on whatever numbers a caller passes, and the layout of a mapping
-// that passes them.
+// Questions 1 to 5, 15 and 16, on whatever numbers and list a caller passes, and the layout of a
+// mapping that passes them.
 ghost use mathlib.Core.Path.{_≡_};
+ghost use mathlib.Core.List.{[]};
 ghost use Prim.Native.Nat.{_≤_};
 ghost use lib.IntN.{pos, natAbs, _+ℤ_, _-ℤ_, _*ℤ_};
-ghost use Rattle.model.specs.Ownership.{nat};
+ghost use Rattle.model.specs.Mappings.{cyclic, dealingWith, mappingWith};
+ghost use Rattle.model.specs.Ownership.{nat, blockIn};
 ghost use Rattle.model.specs.Questions.{between, isBelow, boundsFit, cellsFit, firstNo, ofMapping};
-ghost use Rattle.mapping.specs.Answers.{mappingOf, ofDealing, mappedOf, Sound, refusalIn};
+ghost use Rattle.mapping.specs.Answers.{mappingOf, ofDealt, ofDealing, mappedOf, Sound, refusalIn};
 ghost use Rattle.mapping.specs.Bounds.{Aligned, Reached};
+use crate::runs::sizes_fit;
+use model::Dealing;
 use model::Layout;
 use model::Mapping;
 
@@ -43,9 +47,41 @@ pub fn is_below(x: i64, n: u64) -> bool
     (x as u64) < n
 }
 
-// The first of questions 1 to 4 that is answered no, or 0.
-fn dealing_refusal(t: i64, p: i64, k: i64, a: i64, b: i64) -> u32
-    ensures { λ r. ⌜ r ≡ firstNo (ofDealing t p k a b) ⌝ }
+// Question 3, of a block.
+fn block_refusal(k: i64) -> u32
+    ensures { λ r. ⌜ r ≡ firstNo (ofDealt (pos 0) (pos 0) (cyclic k)) ⌝ }
+{
+    if !within(1, 65536, k) {
+        return 3;
+    }
+    0
+}
+
+// Question 16, of a list of sizes.
+fn runs_refusal(sizes: &[u8], t: i64, p: i64) -> u32
+    requires { ⌜ natAbs p ≤ 1024 ⌝ }
+    ensures { λ r. ⌜ r ≡ firstNo (ofDealt t p (dealingWith Dealing.GenBlock (now (sizes .entry)))) ⌝ }
+{
+    if !sizes_fit(sizes, natural(p), natural(t)) {
+        return 16;
+    }
+    0
+}
+
+// The one that concerns the dealing.
+fn dealt_refusal(d: Dealing, sizes: &[u8], t: i64, p: i64) -> u32
+    requires { ⌜ natAbs p ≤ 1024 ⌝ }
+    ensures { λ r. ⌜ r ≡ firstNo (ofDealt t p (dealingWith d (now (sizes .entry)))) ⌝ }
+{
+    match d {
+        Dealing::Cyclic(k) => block_refusal(k),
+        Dealing::GenBlock => runs_refusal(sizes, t, p),
+    }
+}
+
+// The first of questions 1 to 4 and 16 that is answered no, or 0.
+fn dealing_refusal(t: i64, p: i64, d: Dealing, sizes: &[u8], a: i64, b: i64) -> u32
+    ensures { λ r. ⌜ r ≡ firstNo (ofDealing t p (dealingWith d (now (sizes .entry))) a b) ⌝ }
 {
     if !within(1, MOST, t) {
         return 1;
@@ -53,8 +89,9 @@ fn dealing_refusal(t: i64, p: i64, k: i64, a: i64, b: i64) -> u32
     if !within(1, 1024, p) {
         return 2;
     }
-    if !within(1, 65536, k) {
-        return 3;
+    let dealt = dealt_refusal(d, sizes, t, p);
+    if dealt != 0 {
+        return dealt;
     }
     if !within(1, MOST, a) {
         return 4;
@@ -77,7 +114,7 @@ pub fn last_of(lower: i64, n: i64) -> i64
 // lower on. An array of none has no last index.
 fn bounds_fit(t: i64, n: i64, lower: i64, origin: i64) -> bool
     requires { ⌜ (natAbs t ≤ 2147483647) × (natAbs n ≤ 2147483647) ⌝ }
-    ensures { λ r. ⌜ r ≡ boundsFit (mappingOf t (pos 1) (pos 1) (pos 1) (pos 0) n lower origin) ⌝ }
+    ensures { λ r. ⌜ r ≡ boundsFit (mappingOf t (pos 1) (cyclic (pos 1)) (pos 1) (pos 0) n lower origin) ⌝ }
 {
     if !within(-MOST, MOST, lower) {
         return false;
@@ -106,7 +143,7 @@ fn cell_under(a: i64, b: i64, origin: i64, j: i64) -> i64
 // one's lie in a template of t cells?
 fn cells_fit(t: i64, a: i64, b: i64, n: i64, lower: i64, origin: i64) -> bool
     requires { ⌜ Reached a b n lower origin ⌝ }
-    ensures { λ r. ⌜ r ≡ cellsFit (mappingOf t (pos 1) (pos 1) a b n lower origin) ⌝ }
+    ensures { λ r. ⌜ r ≡ cellsFit (mappingOf t (pos 1) (cyclic (pos 1)) a b n lower origin) ⌝ }
 {
     if n < 1 {
         return true;
@@ -118,10 +155,20 @@ fn cells_fit(t: i64, a: i64, b: i64, n: i64, lower: i64, origin: i64) -> bool
 }
 
 // The first of questions 1 to 5 that is answered no, or 0; 15 stands between the halves of 5.
-fn first_refusal(t: i64, p: i64, k: i64, a: i64, b: i64, n: i64, lower: i64, origin: i64) -> u32
-    ensures { λ r. ⌜ r ≡ firstNo (ofMapping (mappingOf t p k a b n lower origin)) ⌝ }
+fn first_refusal(
+    t: i64,
+    p: i64,
+    d: Dealing,
+    sizes: &[u8],
+    a: i64,
+    b: i64,
+    n: i64,
+    lower: i64,
+    origin: i64,
+) -> u32
+    ensures { λ r. ⌜ r ≡ firstNo (ofMapping (mappingOf t p (dealingWith d (now (sizes .entry))) a b n lower origin)) ⌝ }
 {
-    let dealing = dealing_refusal(t, p, k, a, b);
+    let dealing = dealing_refusal(t, p, d, sizes, a, b);
     if dealing != 0 {
         return dealing;
     }
@@ -144,18 +191,38 @@ pub enum Mapped {
     Refused(u32),
 }
 
-fn mapped_of(t: i64, p: i64, k: i64, a: i64, b: i64, n: i64, lower: i64, origin: i64) -> Mapped
-    ensures { λ r. ⌜ r ≡ mappedOf (mappingOf t p k a b n lower origin) ⌝ }
+// Its block; 1 stands for that of a GEN_BLOCK template.
+fn block_of(d: Dealing) -> i64
+    ensures { λ r. ⌜ r ≡ blockIn (dealingWith d []) ⌝ }
+{
+    match d {
+        Dealing::Cyclic(k) => k,
+        Dealing::GenBlock => 1,
+    }
+}
+
+fn mapped_of(
+    t: i64,
+    p: i64,
+    d: Dealing,
+    sizes: &[u8],
+    a: i64,
+    b: i64,
+    n: i64,
+    lower: i64,
+    origin: i64,
+) -> Mapped
+    ensures { λ r. ⌜ r ≡ mappedOf (mappingOf t p (dealingWith d (now (sizes .entry))) a b n lower origin) ⌝ }
     ensures { λ r. ⌜ Sound r ⌝ }
 {
-    let q = first_refusal(t, p, k, a, b, n, lower, origin);
+    let q = first_refusal(t, p, d, sizes, a, b, n, lower, origin);
     if q != 0 {
         return Mapped::Refused(q);
     }
     let l = Layout {
         cells: natural(t),
         processors: natural(p),
-        block: natural(k),
+        block: natural(block_of(d)),
         stride: natural(a),
         offset: natural(cell_under(a, b, origin, lower)),
         size: natural(n),
@@ -163,14 +230,16 @@ fn mapped_of(t: i64, p: i64, k: i64, a: i64, b: i64, n: i64, lower: i64, origin:
     Mapped::By(l, lower)
 }
 
-pub fn ask_mapping(m: Mapping) -> Mapped
-    ensures { λ r. ⌜ r ≡ mappedOf m ⌝ }
+pub fn ask_mapping(m: Mapping, sizes: &[u8]) -> Mapped
+    ensures { λ r. ⌜ r ≡ mappedOf (mappingWith m (now (sizes .entry))) ⌝ }
     ensures { λ r. ⌜ Sound r ⌝ }
 {
+    let d = m.dealing;
     mapped_of(
         m.cells,
         m.processors,
-        m.block,
+        d,
+        sizes,
         m.stride,
         m.offset,
         m.size,

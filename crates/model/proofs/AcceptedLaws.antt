@@ -4,18 +4,18 @@ use mathlib.Core.Path.{_≡_, refl, sym, ap, _∙_}
 use mathlib.Core.Bool.{Bool, true, false, not, _&&_, _||_}
 use native.Mathlib.Nat.{mul-le-mul-left}
 use native.Mathlib.Omega.{arith}
+use mathlib.Core.List.{List}
 use lib.Dec.{ltb, eqb}
 use lib.IntN.{ℤ, pos, negsuc, natAbs, _+ℤ_, _-ℤ_, _*ℤ_}
 use lib.Signed.{leZ, ltZ}
 use borrow.Author.Tests.{ltb-true, ltb-false, le-ltb, eqb-false, ne-eqb, not-true}
 use Rattle.numbers.proofs.Tests.{both-true}
-use Rattle.model.specs.declared.Mapping.{Mapping}
+use Rattle.model.specs.Mappings.{Dealing, cyclic, genBlock, Mapping, Section}
 use Rattle.model.specs.declared.Triplet.{Triplet}
-use Rattle.model.specs.declared.Section.{Section}
-use Rattle.model.specs.Ownership.{nat, cellUnder, lastIndex, lastCell, declaredIndex, layoutOf, cellOf}
+use Rattle.model.specs.Ownership.{nat, cellUnder, lastIndex, lastCell, declaredIndex, blockIn, layoutOf, cellOf}
 use Rattle.model.specs.Sections.{elementAt, layout, count}
 use Rattle.model.specs.Sized.{Sized}
-use Rattle.model.specs.Questions.{firstNo, AllYes, between, isBelow, most, least, boundsFit, cellsFit, ofMapping}
+use Rattle.model.specs.Questions.{firstNo, AllYes, between, isBelow, most, least, blockFits, sizesFit, runsFit, boundsFit, cellsFit, ofMapping}
 use Rattle.model.specs.Questions.{isIndex, inRange, endsFit, ofTriplet, ofSection}
 use Rattle.model.proofs.BoundLaws.{taken-off, index-from, last-declared, cell-further}
 use Rattle.model.proofs.QuestionLaws.{all-yes, both-yes, Natural, between-is, size-is, Below, below-is, not-below, is-below}
@@ -50,7 +50,7 @@ bounds-of m e =
 pub record Whole (m : Mapping) : Type 0 where
   pub cells : m .cells ≡ pos (layoutOf m .cells)
   pub processors : m .processors ≡ pos (layoutOf m .processors)
-  pub block : m .block ≡ pos (layoutOf m .block)
+  pub block : blockIn (m .dealing) ≡ pos (layoutOf m .block)
   pub stride : m .stride ≡ pos (layoutOf m .stride)
   pub size : m .size ≡ pos (layoutOf m .size)
 
@@ -69,14 +69,26 @@ module _ (m : Mapping) (ok : firstNo (ofMapping m) ≡ 0) where
   processors-in : Natural (m .processors) 1 1024
   processors-in = between-is 1 1024 (m .processors) (yes-all .1 .0)
 
-  block-in : Natural (m .block) 1 65536
-  block-in = between-is 1 65536 (m .block) (yes-all .1 .1 .0)
+  block-in : Natural (blockIn (m .dealing)) 1 65536
+  unfolding nat
+  block-in = go (m .dealing) (yes-all .1 .1 .0)
+    where
+      go : (d : Dealing) → blockFits d ≡ true → Natural (blockIn d) 1 65536
+      go (cyclic k) e = between-is 1 65536 k e
+      go (genBlock sizes left) e = record { whole = refl; from = omega arith; upto = omega arith }
+
+  -- the sizes of a GEN_BLOCK template passed question 16
+  sizes-in : runsFit (m .cells) (m .processors) (m .dealing) ≡ true
+  sizes-in = yes-all .1 .1 .1 .0
+
+  pub runs-in : {sizes : List ℤ} {left : ℕ} → m .dealing ≡ genBlock sizes left → sizesFit (m .cells) (m .processors) sizes left ≡ true
+  runs-in d = rw d at sizes-in
 
   stride-in : Natural (m .stride) 1 2147483647
-  stride-in = between-is 1 2147483647 (m .stride) (both-true (between (pos 1) most (m .stride)) (between least most (m .offset)) (yes-all .1 .1 .1 .0) .0)
+  stride-in = between-is 1 2147483647 (m .stride) (both-true (between (pos 1) most (m .stride)) (between least most (m .offset)) (yes-all .1 .1 .1 .1 .0) .0)
 
   size-in : Natural (m .size) 0 2147483647
-  size-in = between-is 0 2147483647 (m .size) (yes-all .1 .1 .1 .1 .0)
+  size-in = between-is 0 2147483647 (m .size) (yes-all .1 .1 .1 .1 .1 .0)
 
   pub whole-mapping : Whole m
   unfolding layoutOf
@@ -90,11 +102,11 @@ module _ (m : Mapping) (ok : firstNo (ofMapping m) ≡ 0) where
       }
 
   pub bounds-in : Bounds m
-  bounds-in = bounds-of m (yes-all .1 .1 .1 .1 .1 .0)
+  bounds-in = bounds-of m (yes-all .1 .1 .1 .1 .1 .1 .0)
 
   pub offset-small : natAbs (m .offset) ≤ 2147483647
   offset-small =
-      size-is (m .offset) (both-true (between (pos 1) most (m .stride)) (between least most (m .offset)) (yes-all .1 .1 .1 .0) .1)
+      size-is (m .offset) (both-true (between (pos 1) most (m .stride)) (between least most (m .offset)) (yes-all .1 .1 .1 .1 .0) .1)
 
   -- an array with elements
   some-in : 1 ≤ layoutOf m .size → ltZ (m .size) (pos 1) ≡ false
@@ -106,7 +118,7 @@ module _ (m : Mapping) (ok : firstNo (ofMapping m) ≡ 0) where
   cells-fit h =
       let first = leZ (pos 0) (cellUnder m (m .lower)) in
       let last = ltZ (cellUnder m (lastIndex m)) (m .cells) in
-      let both = both-true first last (rw (some-in h) at (yes-all .1 .1 .1 .1 .1 .1 .0)) in
+      let both = both-true first last (rw (some-in h) at (yes-all .1 .1 .1 .1 .1 .1 .1 .0)) in
       let f = not-below (cellUnder m (m .lower)) (both .0) in
       let n : ℕ = nat (m .size) in
       let far : cellUnder m (lastIndex m) ≡ pos (nat (cellUnder m (m .lower)) + nat (m .stride) * (n - 1)) =

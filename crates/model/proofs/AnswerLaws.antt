@@ -7,8 +7,8 @@ use native.Mathlib.Omega.{arith}
 use lib.Dec.{eqb}
 use lib.IntN.{ℤ, pos, natAbs, _-ℤ_}
 use borrow.Author.Tests.{eqb-true, eqb-false, eq-eqb}
-use Rattle.model.specs.declared.Mapping.{Mapping}
-use Rattle.model.specs.Ownership.{nat, fromLower, declaredIndex, layoutOf, ownerOf, rank, held, backTo}
+use Rattle.model.specs.Mappings.{Mapping}
+use Rattle.model.specs.Ownership.{nat, fromLower, declaredIndex, layoutOf, owner, rank, held, backTo}
 use Rattle.model.specs.Questions.{firstNo, ofMapping, ofProcessor, ofIndex, ofAddress}
 use Rattle.model.specs.Calls.{OwnershipAnswer, ownership, GoingBackAnswer, goingBack, LocalCountAnswer, localCount}
 use Rattle.model.specs.Demand2.{LeadsBack}
@@ -21,9 +21,6 @@ use Rattle.model.proofs.HeldLaws.{held-le}
 use Rattle.model.proofs.Demand2Holds.{owner-lt}
 
 module _ (m : Mapping) where
-  abbrev owner : ℕ → ℕ
-  owner = ownerOf (layoutOf m)
-
   abbrev size : ℕ
   size = layoutOf m .size
 
@@ -33,7 +30,7 @@ module _ (m : Mapping) where
     pub mapping : firstNo (ofMapping m) ≡ 0
     pub index : fromLower m j < size
     pub back : declaredIndex m (fromLower m j) ≡ j
-    pub is : ownership m j ≡ record { refusal = 0; processor = owner (fromLower m j); address = rank owner (fromLower m j) }
+    pub is : ownership m j ≡ record { refusal = 0; processor = owner m (fromLower m j); address = rank (owner m) (fromLower m j) }
 
   -- what a yes to all questions says, as ownership asks them
   index-in : (j : ℤ) → firstNo (ofMapping m ++ ofIndex m j) ≡ 0 → (firstNo (ofMapping m) ≡ 0) × Below (j -ℤ m .lower) size
@@ -54,12 +51,12 @@ module _ (m : Mapping) where
   pub record Leading (q x : ℤ) : Type 0 where
     pub mapping : firstNo (ofMapping m) ≡ 0
     pub processor : Below q (layoutOf m .processors)
-    pub address : Below x (held owner size (nat q))
-    pub is : goingBack m q x ≡ record { refusal = 0; index = declaredIndex m (backTo owner size (nat q) (nat x)) }
+    pub address : Below x (held (owner m) size (nat q))
+    pub is : goingBack m q x ≡ record { refusal = 0; index = declaredIndex m (backTo (owner m) size (nat q) (nat x)) }
 
   -- and as going back does
   address-in : (q x : ℤ) → firstNo (ofMapping m ++ ofProcessor m q ++ ofAddress m q x) ≡ 0
-      → (firstNo (ofMapping m) ≡ 0) × Below q (layoutOf m .processors) × Below x (held owner size (nat q))
+      → (firstNo (ofMapping m) ≡ 0) × Below q (layoutOf m .processors) × Below x (held (owner m) size (nat q))
   unfolding layoutOf nat
   address-in q x none =
       let r = both-yes (ofMapping m) (ofProcessor m q ++ ofAddress m q x) refl none in
@@ -85,14 +82,14 @@ module _ (m : Mapping) where
   there-and-back j e =
       let w = owning j e in
       let i : ℕ = fromLower m j in
-      let rest = ofProcessor m (pos (owner i)) ++ ofAddress m (pos (owner i)) (pos (rank owner i)) in
+      let rest = ofProcessor m (pos (owner m i)) ++ ofAddress m (pos (owner m i)) (pos (rank (owner m) i)) in
       let none : firstNo (ofMapping m ++ rest) ≡ 0 =
       asks-on (ofMapping m) rest (all-yes (ofMapping m) refl (w .mapping))
       ∙ none-no rest (
-        is-below (owner i) (m .processors) (owner-lt (layoutOf m) (mapped m (w .mapping) .processors-pos) i),
-        (is-below (rank owner i) (pos (held owner size (owner i))) (rank-lt owner size (owner i) i (w .index) refl), tt),
+        is-below (owner m i) (m .processors) (owner-lt m (w .mapping) i (w .index)),
+        (is-below (rank (owner m) i) (pos (held (owner m) size (owner m i))) (rank-lt (owner m) size (owner m i) i (w .index) refl), tt),
       ) in
-      rw (w .is, eq-eqb (firstNo (ofMapping m ++ rest)) 0 none, back-rank owner size i (w .index), w .back)
+      rw (w .is, eq-eqb (firstNo (ofMapping m ++ rest)) 0 none, back-rank (owner m) size i (w .index), w .back)
 
   -- ownership of an answer of going back gives processor and address
   pub back-and-there : (q x : ℤ) → goingBack m q x .refusal ≡ 0
@@ -100,8 +97,8 @@ module _ (m : Mapping) where
   unfolding ownership
   back-and-there q x e =
       let w = leading q x e in
-      let i : ℕ = backTo owner size (nat q) (nat x) in
-      let b : LeadsBack owner size (nat q) (nat x) i = rank-back owner size (nat q) (nat x) (w .address .below) in
+      let i : ℕ = backTo (owner m) size (nat q) (nat x) in
+      let b : LeadsBack (owner m) size (nat q) (nat x) i = rank-back (owner m) size (nat q) (nat x) (w .address .below) in
       let j : ℤ = declaredIndex m i in
       let none : firstNo (ofMapping m ++ ofIndex m j) ≡ 0 =
       asks-on (ofMapping m) (ofIndex m j) (all-yes (ofMapping m) refl (w .mapping))
@@ -120,8 +117,8 @@ module _ (m : Mapping) where
       let i : ℕ = nat (j -ℤ m .lower) in
       let s = mapped m (r .0) in (
         omega arith,
-        omega (arith, owner-lt (layoutOf m) (s .processors-pos) i),
-        omega (arith, rank-lt owner size (owner i) i (r .1 .below) refl, held-le owner (owner i) size),
+        omega (arith, owner-lt m (r .0) i (r .1 .below), s .processors-high),
+        omega (arith, rank-lt (owner m) size (owner m i) i (r .1 .below) refl, held-le (owner m) (owner m i) size),
       ))
       (λ low. omega arith)
 
@@ -133,7 +130,7 @@ module _ (m : Mapping) where
       (ofMapping m ++ ofProcessor m q ++ ofAddress m q x) refl _ _
       (λ none.
       let r = address-in q x none in
-      (omega arith, omega (arith, index-small m (r .0) _ (rank-back owner size (nat q) (nat x) (r .2 .below) .inside))))
+      (omega arith, omega (arith, index-small m (r .0) _ (rank-back (owner m) size (nat q) (nat x) (r .2 .below) .inside))))
       (λ low. omega arith)
 
   pub local-count-small : (q : ℤ) → (localCount m q .refusal < 2 ^ 31) × (localCount m q .elements < 2 ^ 31)
@@ -142,5 +139,5 @@ module _ (m : Mapping) where
       answered (λ (a : LocalCountAnswer). (a .refusal < 2 ^ 31) × (a .elements < 2 ^ 31)) (ofMapping m ++ ofProcessor m q) refl _ _
       (λ none.
       let r = both-yes (ofMapping m) (ofProcessor m q) refl none in
-      (omega arith, omega (arith, held-le owner (nat q) size, mapped m (r .0) .size-high)))
+      (omega arith, omega (arith, held-le (owner m) (nat q) size, mapped m (r .0) .size-high)))
       (λ low. omega arith)

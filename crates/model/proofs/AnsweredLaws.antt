@@ -37,10 +37,10 @@ refusal-le b (q ∷ qs) h = go (refusal-le b qs (each .1)) (q .holds) refl
     go ih true p = rw p ih
     go ih false p = rw p (leb-true (q .number) b (each .0))
 
--- a call's answer is a where no question is answered no, and else r, the refusal; there are 15 questions
-pub answered : {A : Type 0} (P : A → Type 0) (qs : List Question) → numberedTo 15 qs ≡ true → (a r : A)
-    → (firstNo qs ≡ 0 → P a) → (firstNo qs ≤ 15 → P r) → P (cond (eqb (firstNo qs) 0) a r)
-answered P qs h a r accepted refused = by-first-no P qs (λ b. cond b a r) accepted (λ f. refused (refusal-le 15 qs h))
+-- a call's answer is a where no question is answered no, and else r, the refusal; questions are numbered to 16
+pub answered : {A : Type 0} (P : A → Type 0) (qs : List Question) → numberedTo 16 qs ≡ true → (a r : A)
+    → (firstNo qs ≡ 0 → P a) → (firstNo qs ≤ 16 → P r) → P (cond (eqb (firstNo qs) 0) a r)
+answered P qs h a r accepted refused = by-first-no P qs (λ b. cond b a r) accepted (λ f. refused (refusal-le 16 qs h))
 
 -- ---- demand 1
 

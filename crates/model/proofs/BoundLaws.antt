@@ -9,7 +9,7 @@ use lib.IntN.{sucℤ, sucℤ-*ℤ, *ℤ-zero, *ℤ-comm}
 use lib.Signed.{leZ, ltZ}
 use borrow.Author.Tests.{le-leb, lt-leb, lt-ltb, le-ltb}
 use Rattle.numbers.proofs.Signed.{minus}
-use Rattle.model.specs.declared.Mapping.{Mapping}
+use Rattle.model.specs.Mappings.{Mapping}
 use Rattle.model.specs.Ownership.{nat, cellUnder, lastIndex, fromLower, declaredIndex}
 use Rattle.model.specs.Questions.{between, isBelow, isIndex}
 use Rattle.model.proofs.TripletLaws.{le-up}

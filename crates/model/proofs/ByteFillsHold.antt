@@ -12,9 +12,9 @@ use borrow.Author.Tests.{eqb-false}
 use Rattle.numbers.specs.Words.{wordsOf}
 use Rattle.numbers.proofs.SearchLaws.{tally-le}
 use Rattle.numbers.proofs.WordLaws.{words-length}
-use Rattle.model.specs.declared.Section.{Section}
-use Rattle.model.specs.Ownership.{nat, owns, rank, ownerOf}
-use Rattle.model.specs.Sections.{layout, count, index, address, ownsAt}
+use Rattle.model.specs.Mappings.{Section}
+use Rattle.model.specs.Ownership.{nat, owns, rank, owner}
+use Rattle.model.specs.Sections.{count, index, address, ownsAt}
 use Rattle.model.specs.Steps.{nextPlace}
 use Rattle.model.specs.Filling.{Walk, Filled, stopped, wrote, fillBy}
 use Rattle.model.specs.Questions.{firstNo, ofSection}
@@ -24,7 +24,7 @@ use Rattle.model.proofs.AcceptedLaws.{accepted}
 use Rattle.model.proofs.FillCalls.{fill-cases}
 use Rattle.model.proofs.SectionLaws.{index-lt}
 use Rattle.model.proofs.AddressLaws.{owns-of}
-use Rattle.model.proofs.WalkTheorem.{Walks, walks}
+use Rattle.model.proofs.Walking.{Walks, walks}
 use Rattle.model.proofs.Fronts.{fronts}
 use Rattle.model.proofs.ByteStores.{AllFit, stores-rest, stores-words}
 
@@ -72,11 +72,14 @@ stored-words bs f w =
 -- ---- a section's fill
 
 module _ (x : Section) (ok : firstNo (ofSection x) ≡ 0) (t : ℕ) (h : t < count x) where
-  -- an address is no larger than its index
+  -- an address is no larger than its index, whoever the owner
+  pub rank-low : (o : ℕ → ℕ) → rank o (index x t) < 2147483648
+  unfolding rank
+  rank-low o = omega (arith, tally-le (owns o (o (index x t))) (index x t), index-lt x ok t h, accepted x ok .sized .size-high)
+
   pub address-low : address x t < 2147483648
-  unfolding address rank
-  address-low =
-      omega (arith, tally-le (owns (ownerOf (layout x)) (ownerOf (layout x) (index x t))) (index x t), index-lt x ok t h, accepted x ok .sized .size-high)
+  unfolding address
+  address-low = rank-low (owner (x .mapping))
 
   -- the place after one of processor q is the count or the next one of q
   next : (q : ℕ) → ownsAt x q t ≡ true → (nextPlace x t ≤ count x) × (nextPlace x t < count x → ownsAt x q (nextPlace x t) ≡ true)
@@ -87,7 +90,7 @@ module _ (x : Section) (ok : firstNo (ofSection x) ≡ 0) (t : ℕ) (h : t < cou
 
   pub next-le : nextPlace x t ≤ count x
   unfolding ownsAt
-  next-le = next (ownerOf (layout x) (index x t)) (owns-of (ownerOf (layout x)) _ (index x t) refl) .0
+  next-le = next (owner (x .mapping) (index x t)) (owns-of (owner (x .mapping)) _ (index x t) refl) .0
 
   pub next-owned : (q : ℕ) → ownsAt x q t ≡ true → nextPlace x t < count x → ownsAt x q (nextPlace x t) ≡ true
   next-owned q mine = next q mine .1

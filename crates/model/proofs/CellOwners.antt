@@ -18,7 +18,7 @@ use native.Mathlib.Nat.{
 }
 use native.Mathlib.Omega.{arith}
 use Rattle.model.specs.declared.Layout.{Layout}
-use Rattle.model.specs.Ownership.{cellOwner, courseCells, columnOf}
+use Rattle.model.specs.Ownership.{cellOf, cellOwner, courseCells, columnOf, ownerOf}
 use Rattle.model.proofs.SectionLaws.{Moved}
 use Rattle.model.proofs.Rests.{Sum, sum-mod, Fits}
 
@@ -30,6 +30,10 @@ facing false k q = k - 1 - q
 pub cell-owner-lt : (m : Layout) → 0 < m .processors → (c : ℕ) → cellOwner m c < m .processors
 unfolding cellOwner
 cell-owner-lt m h c = mod-lt (c / m .block) h
+
+pub cyclic-owner-lt : (m : Layout) → 0 < m .processors → (i : ℕ) → ownerOf m i < m .processors
+unfolding ownerOf
+cyclic-owner-lt m h i = cell-owner-lt m h (cellOf m i)
 
 module _ (m : Layout) (p-pos : 0 < m .processors) (k-pos : 0 < m .block) where
   pub course-pos : 0 < courseCells m

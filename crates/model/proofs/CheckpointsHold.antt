@@ -8,15 +8,14 @@ use lib.ListN.{length, getD, take, drop, take-append-drop}
 use lib.Seq.{length-take-le, getD-take, ext-getD}
 use borrow.Author.Tests.{eq-eqb, ne-eqb, leb-true, le-leb}
 use Rattle.numbers.proofs.Tests.{both-true}
-use Rattle.model.specs.declared.Mapping.{Mapping}
-use Rattle.model.specs.Ownership.{layoutOf, ownerOf}
+use Rattle.model.specs.Mappings.{Mapping}
+use Rattle.model.specs.Ownership.{layoutOf, owner}
 use Rattle.model.specs.Questions.{firstNo, ofMapping, Passes}
 use Rattle.model.specs.Storages.{OneToOne, copied}
 use Rattle.model.specs.Checkpoints.{CopyCall, copyOf, wordsIn, ofWords, ofCopy, copying, placeOf, inOrder, afterCopy, saved, loaded}
 use Rattle.model.specs.Checkpoints.{Room, frontOf, Checkpoints}
 use Rattle.model.specs.Demand1.{Answers, WordsCopied, NoneCopied}
 use Rattle.model.proofs.QuestionLaws.{all-yes, none-no, both-yes, asks-on}
-use Rattle.model.proofs.AcceptedLaws.{mapped}
 use Rattle.model.proofs.AnsweredLaws.{either-of}
 use Rattle.model.proofs.Demand2Holds.{owner-lt}
 use Rattle.model.proofs.StorageLaws.{one-to-one}
@@ -25,9 +24,9 @@ use Rattle.model.proofs.CopyLaws.{copied-length, copied-rest, copied-at
 -- ---- places
 
 pub places : (m : Mapping) → Passes m → OneToOne (wordsIn m) (placeOf m)
+unfolding layoutOf
 places m ok =
-    one-to-one (ownerOf (layoutOf m)) (layoutOf m .processors) (wordsIn m)
-    (λ i h. owner-lt (layoutOf m) (mapped m ok .processors-pos) i)
+    one-to-one (owner m) (layoutOf m .processors) (wordsIn m) (owner-lt m ok)
 
 in-order : (n : ℕ) → OneToOne n inOrder
 in-order n = record { below = λ i h. h; once = λ i j h k e. e; each = λ y h. (y, h, refl) }

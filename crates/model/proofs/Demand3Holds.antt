@@ -3,8 +3,8 @@ use mathlib.Core.Path.{_≡_, refl}
 use mathlib.Core.List.{[], _∷_}
 use lib.IntN.{pos}
 use Rattle.numbers.specs.Words.{valueOf, wordsIn, wordsOf}
-use Rattle.model.specs.declared.Section.{Section}
-use Rattle.model.specs.Ownership.{ownerOf}
+use Rattle.model.specs.Mappings.{Section}
+use Rattle.model.specs.Ownership.{owner}
 use Rattle.model.specs.Sections.{layout}
 use Rattle.model.specs.Questions.{firstNo, ofSection}
 use Rattle.model.specs.ByteFills.{inWords}
@@ -22,7 +22,7 @@ in-form f same asks x ok = record {
   once = once f same x ok;
   goes-on = one-more f same x ok;
   reaches = runs-exist f same x ok asks;
-  no-gap = no-gap (ownerOf (layout x)) (layout x .size);
+  no-gap = no-gap (owner (x .mapping)) (layout x .size);
   neighbours = neighbours-apart x ok;
   cheap = cost-le x;
 }

@@ -1,4 +1,4 @@
--- With both bounds 0 and b of 0 or more every answer is document 01's. Assumes nothing.
+-- Of a cyclic template with both bounds 0 and b of 0 or more every answer is document 01's. Assumes nothing.
 use Prim.Native.Nat.{ℕ, _-_}
 use mathlib.Core.Path.{_≡_, refl, sym, ap, _∙_}
 use mathlib.Core.Bool.{Bool, true, false, cond, _&&_, _||_, true≢false}
@@ -8,12 +8,11 @@ use lib.IntN.{ℤ, pos, negsuc, _+ℤ_, _-ℤ_, _*ℤ_, +ℤ-idl, *ℤ-zero}
 use lib.ListN.{length}
 use lib.Signed.{leZ, ltZ}
 use Rattle.numbers.specs.Search.{passing}
-use Rattle.model.specs.declared.Mapping.{Mapping}
-use Rattle.model.specs.declared.Section.{Section}
-use Rattle.model.specs.Ownership.{nat, cellUnder, lastIndex, fromLower, declaredIndex, layoutOf, ownerOf, rank, held, backTo}
+use Rattle.model.specs.Mappings.{Mapping, Section}
+use Rattle.model.specs.Ownership.{nat, cellUnder, lastIndex, fromLower, declaredIndex, blockIn, layoutOf, ownerOf, owner, rank, held, backTo}
 use Rattle.model.specs.Sections.{elementAt, layout, count, index, address}
 use Rattle.model.specs.Filling.{answer}
-use Rattle.model.specs.Questions.{Question, ask, firstNo, between, isBelow, most, least, boundsFit, cellsFit, ofMapping, isIndex, inRange, endsFit}
+use Rattle.model.specs.Questions.{Question, ask, firstNo, between, blockFits, runsFit, isBelow, most, least, boundsFit, cellsFit, ofMapping, isIndex, inRange, endsFit}
 use Rattle.model.specs.Questions.{ofSection, ofProcessor, ofIndex, ofAddress, ofQuota}
 use Rattle.model.specs.Calls.{ownership, goingBack, localCount, stepsReport, noReport, sectionSteps, firstPlaceAt, FillCall, ofFill, requestOf, fill}
 use Rattle.model.specs.Transfers.{TransferCall, isEntry, pairPlaces, placesOf, ofCounts, ofRoom, entriesOf, ofTransfer, transfers, withEntries, listsAfter}
@@ -23,13 +22,14 @@ use Rattle.model.specs.Document01.{addressIn, plainPairs, plainPlaces, p
 use Rattle.model.proofs.BoundLaws.{index-from}
 use Rattle.model.proofs.QuestionLaws.{between-is}
 use Rattle.model.proofs.ZeroBounds.{less-zero, zero-bounds}
-use Rattle.model.proofs.LinedLaws.{linedOf, owns-lined, address-lined, first-lined, place-lined, steps-lined, walk-lined}
+use Rattle.model.proofs.LinedLaws.{linedOf, owns-lined, address-lined, first-lined, place-lined, steps-dealt, walk-lined}
+use Rattle.model.proofs.Walking.{owner-cyclic}
 
 -- ---- lists of questions
 
--- the first no of questions 1 to 5 and 15, and of document 01's 1 to 5, by their answers and what follows
+-- the first no of questions 1 to 5 and 15, 16 answered yes, and of document 01's 1 to 5, by their answers and what follows
 abbrev bounded : Bool → Bool → Bool → Bool → Bool → Bool → Bool → ℕ → ℕ
-bounded t p k a n b c r = cond t (cond p (cond k (cond a (cond n (cond b (cond c r 5) 15) 5) 4) 3) 2) 1
+bounded t p k a n b c r = cond t (cond p (cond k (cond true (cond a (cond n (cond b (cond c r 5) 15) 5) 4) 16) 3) 2) 1
 
 abbrev plain : Bool → Bool → Bool → Bool → Bool → Bool → ℕ → ℕ
 plain t p k a n c r = cond t (cond p (cond k (cond a (cond (n && c) r 5) 4) 3) 2) 1
@@ -72,11 +72,14 @@ module _ (m : Mapping) (p : Plain m) where
   layout-plain = λ i. record {
     cells = nat (m .cells);
     processors = nat (m .processors);
-    block = nat (m .block);
+    block = nat (blockIn (m .dealing));
     stride = nat (m .stride);
     offset = nat (first-plain i);
     size = nat (m .size);
   }
+
+  owner-plain : owner m ≡ ownerOf (plainLayout m)
+  owner-plain = owner-cyclic m (p .dealing) ∙ ap ownerOf layout-plain
 
   from-plain : (j : ℤ) → fromLower m j ≡ nat j
   unfolding fromLower
@@ -93,16 +96,26 @@ module _ (m : Mapping) (p : Plain m) where
       ∙ ap (λ (z : ℤ). m .stride *ℤ (z -ℤ pos 1) +ℤ m .offset) (ap (λ (z : ℤ). z +ℤ m .size) (p .lower) ∙ +ℤ-idl (m .size)) in
       λ i. ltZ (m .size) (pos 1) || ((ap (leZ (pos 0)) first-plain ∙ p .offset) i && ltZ (last i) (m .cells))
 
+  -- 3 is about the block, and 16 answered yes
+  dealt : (t q : Bool) (r : ℕ)
+      → cond t (cond q (cond (blockFits (m .dealing)) (cond (runsFit (m .cells) (m .processors) (m .dealing)) r 16) 3) 2) 1
+      ≡ cond t (cond q (cond (between (pos 1) (pos 65536) (blockIn (m .dealing))) r 3) 2) 1
+  dealt t q r =
+      let e = p .dealing in
+      (λ i. cond t (cond q (cond (blockFits (e i)) (cond (runsFit (m .cells) (m .processors) (e i)) r 16) 3) 2) 1)
+      ∙ sym (λ i. cond t (cond q (cond (between (pos 1) (pos 65536) (blockIn (e i))) r 3) 2) 1)
+
   -- the questions about the mapping, and whatever follows
   pub asked-plain : (r : List Question) → firstNo (ofMapping m ++ r) ≡ firstNo (plainMapping m ++ r)
   unfolding firstNo
   asked-plain r =
       let t = between (pos 1) most (m .cells) in
       let q = between (pos 1) (pos 1024) (m .processors) in
-      let k = between (pos 1) (pos 65536) (m .block) in
+      let k = between (pos 1) (pos 65536) (blockIn (m .dealing)) in
       let a = between (pos 1) most (m .stride) in
       let n = between (pos 0) most (m .size) in
-      (λ i. bounded t q k (a && natural-offset (m .offset) (p .offset) i) n (boundsFit m) (cells-plain i) (firstNo r))
+      dealt t q (cond (a && between least most (m .offset)) (cond n (cond (boundsFit m) (cond (cellsFit m) (firstNo r) 5) 15) 5) 4)
+      ∙ (λ i. bounded t q k (a && natural-offset (m .offset) (p .offset) i) n (boundsFit m) (cells-plain i) (firstNo r))
       ∙ without-15 t q k (a && between (pos 0) most (m .offset)) n (boundsFit m) (plainCells m) (firstNo r)
       (λ e f. zero-bounds m (p .lower) (p .origin) (between-is 1 2147483647 (m .cells) e) (between-is 0 2147483647 (m .size) f))
 
@@ -112,7 +125,7 @@ module _ (m : Mapping) (p : Plain m) where
       let e : firstNo (ofMapping m ++ ofIndex m j) ≡ firstNo (plainMapping m ++ ask 9 (isBelow (m .size) j) ∷ []) =
       (λ i. firstNo (ofMapping m ++ ask 9 (index-plain j i) ∷ [])) ∙ asked-plain (ask 9 (isBelow (m .size) j) ∷ []) in
       λ i. cond (eqb (e i) 0)
-      (record { refusal = 0; processor = ownerOf (layout-plain i) (from-plain j i); address = rank (ownerOf (layout-plain i)) (from-plain j i) })
+      (record { refusal = 0; processor = owner-plain i (from-plain j i); address = rank (owner-plain i) (from-plain j i) })
       (record { refusal = e i; processor = 0; address = 0 })
 
   pub going-back-plain : (q x : ℤ) → goingBack m q x ≡ plainGoingBack m q x
@@ -122,17 +135,17 @@ module _ (m : Mapping) (p : Plain m) where
       let has : ℕ → List Question = λ h. ask 9 (isBelow (pos h) x) ∷ [] in
       let h = held (ownerOf (plainLayout m)) n (nat q) in
       let e : firstNo (ofMapping m ++ ofProcessor m q ++ ofAddress m q x) ≡ firstNo (plainMapping m ++ ofProcessor m q ++ has h) =
-      (λ i. firstNo (ofMapping m ++ ofProcessor m q ++ has (held (ownerOf (layout-plain i)) n (nat q)))) ∙ asked-plain (ofProcessor m q ++ has h) in
+      (λ i. firstNo (ofMapping m ++ ofProcessor m q ++ has (held (owner-plain i) n (nat q)))) ∙ asked-plain (ofProcessor m q ++ has h) in
       let found = ap (λ (z : ℤ). z +ℤ pos (backTo (ownerOf (plainLayout m)) n (nat q) (nat x))) (p .lower) ∙ +ℤ-idl (pos (backTo (ownerOf (plainLayout m)) n (nat q) (nat x))) in
-      let index : m .lower +ℤ pos (backTo (ownerOf (layoutOf m)) n (nat q) (nat x)) ≡ pos (backTo (ownerOf (plainLayout m)) n (nat q) (nat x)) =
-      (λ i. m .lower +ℤ pos (backTo (ownerOf (layout-plain i)) n (nat q) (nat x))) ∙ found in
+      let index : m .lower +ℤ pos (backTo (owner m) n (nat q) (nat x)) ≡ pos (backTo (ownerOf (plainLayout m)) n (nat q) (nat x)) =
+      (λ i. m .lower +ℤ pos (backTo (owner-plain i) n (nat q) (nat x))) ∙ found in
       λ i. cond (eqb (e i) 0) (record { refusal = 0; index = index i }) (record { refusal = e i; index = pos 0 })
 
   pub local-count-plain : (q : ℤ) → localCount m q ≡ plainLocalCount m q
   unfolding localCount
   local-count-plain q =
       let e = asked-plain (ofProcessor m q) in
-      λ i. cond (eqb (e i) 0) (record { refusal = 0; elements = held (ownerOf (layout-plain i)) (nat (m .size)) (nat q) })
+      λ i. cond (eqb (e i) 0) (record { refusal = 0; elements = held (owner-plain i) (nat (m .size)) (nat q) })
       (record { refusal = e i; elements = 0 })
 
 -- ---- a section
@@ -148,7 +161,7 @@ module _ (x : Section) (p : Plain (x .mapping)) where
   }
 
   address-plain : (t : ℕ) → address x t ≡ addressIn (plainLined x) t
-  address-plain = address-lined x lined-plain
+  address-plain = address-lined x (p .dealing) lined-plain
 
   ends-plain : endsFit x ≡ plainEnds x
   unfolding endsFit
@@ -166,14 +179,14 @@ module _ (x : Section) (p : Plain (x .mapping)) where
   unfolding sectionSteps
   steps-plain =
       let e = section-plain [] in
-      λ i. cond (eqb (e i) 0) (stepsReport (count x) (steps-lined x lined-plain i))
+      λ i. cond (eqb (e i) 0) (stepsReport (count x) (steps-dealt x (p .dealing) lined-plain i))
       (record { refusal = e i; count = 0; steps = 0; first = noReport; second = noReport })
 
   pub first-place-plain : (q : ℤ) → firstPlaceAt x q ≡ plainFirstPlace x q
   unfolding firstPlaceAt
   first-place-plain q =
       let e = section-plain (ofProcessor (x .mapping) q) in
-      λ i. cond (eqb (e i) 0) (record { refusal = 0; place = first-lined x lined-plain (nat q) i }) (record { refusal = e i; place = 0 })
+      λ i. cond (eqb (e i) 0) (record { refusal = 0; place = first-lined x (p .dealing) lined-plain (nat q) i }) (record { refusal = e i; place = 0 })
 
 pub fill-plain : (c : FillCall) → Plain (c .section .mapping) → fill c ≡ plainFill c
 unfolding fill requestOf
@@ -182,8 +195,8 @@ fill-plain c p =
     let v = lined-plain x p in
     let rest : Bool → List Question = λ b. ofProcessor (x .mapping) (c .processor) ++ ask 10 b ∷ ofQuota (c .quota) in
     let e : firstNo (ofFill c) ≡ firstNo (plainSection x ++ ofProcessor (x .mapping) (c .processor) ++ plainPlace x (c .processor) (c .place) ++ ofQuota (c .quota)) =
-    (λ i. firstNo (ofSection x ++ rest (place-lined x v (c .processor) (c .place) i))) ∙ section-plain x p _ in
-    λ i. answer (walk-lined x v i) (record { refusal = e i; place = nat (c .place); quota = nat (c .quota); list = c .list })
+    (λ i. firstNo (ofSection x ++ rest (place-lined x (p .dealing) v (c .processor) (c .place) i))) ∙ section-plain x p _ in
+    λ i. answer (walk-lined x (p .dealing) v i) (record { refusal = e i; place = nat (c .place); quota = nat (c .quota); list = c .list })
 
 -- ---- transfers
 
@@ -191,7 +204,7 @@ pairs-plain : (left right : Section) → Plain (left .mapping) → Plain (right 
     → pairPlaces left right q m ≡ plainPairs left right q m
 unfolding pairPlaces isEntry
 pairs-plain left right l r q m = λ i.
-    passing (λ t. owns-lined right (lined-plain right r) q t i && owns-lined left (lined-plain left l) m t i) 0 (count left)
+    passing (λ t. owns-lined right (r .dealing) (lined-plain right r) q t i && owns-lined left (l .dealing) (lined-plain left l) m t i) 0 (count left)
 
 module _ (c : TransferCall) (l : Plain (c .left .mapping)) (r : Plain (c .right .mapping)) where
   places-same : placesOf c ≡ plainPlaces c

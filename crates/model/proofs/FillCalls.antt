@@ -10,7 +10,7 @@ use lib.IntN.{ℤ, pos}
 use lib.Signed.{leZ}
 use borrow.Author.Tests.{eqb-true, ltb-true}
 use Rattle.numbers.proofs.Tests.{both-true, either-true}
-use Rattle.model.specs.declared.Section.{Section}
+use Rattle.model.specs.Mappings.{Section}
 use Rattle.model.specs.Ownership.{nat}
 use Rattle.model.specs.Sections.{count, ownsAt}
 use Rattle.model.specs.Filling.{Filled, Outcome, fillBy, answer}

@@ -11,8 +11,8 @@ use lib.ListN.{length, getD, drop, drop-of-length-le}
 use lib.Seq.{drop-cons}
 use borrow.Author.Tests.{le-leb, lt-ltb, eq-eqb, ltb-true, ltb-false}
 use Rattle.numbers.specs.Search.{headOr}
-use Rattle.model.specs.declared.Section.{Section}
-use Rattle.model.specs.Ownership.{nat, layoutOf, ownerOf}
+use Rattle.model.specs.Mappings.{Section}
+use Rattle.model.specs.Ownership.{nat, layoutOf, owner}
 use Rattle.model.specs.Sections.{layout, count, ownsAt, places, firstPlace}
 use Rattle.model.specs.Filling.{Request, Outcome, answer, reported, standing}
 use Rattle.model.specs.Questions.{firstNo, between, isPlace, ofSection, ofProcessor, ofPlace, ofQuota}
@@ -34,7 +34,7 @@ place-left x q n = go (ltb n (length (places x q))) refl
         let h : n < length (places x q) = ltb-true n _ e in
         let a : At x q n (getD (places x q) n 0) = at-place x q n h in
         let u : ℕ = getD (places x q) n 0 in
-        let own = owns-of (ownerOf (layout x)) q _ (a .owner) in
+        let own = owns-of (owner (x .mapping)) q _ (a .owner) in
         rw (drop-cons (places x q) n 0 h, le-leb 0 u zero-le, lt-ltb u (count x) (a .below), own) (or-true (eqb u (count x)))
     go false e =
         rw (drop-of-length-le (places x q) (ltb-false n _ e), le-leb 0 (count x) zero-le, eq-eqb (count x) (count x) refl)

@@ -1,6 +1,7 @@
 -- What follows from the definitions.
--- the starred cases, and demand 2
+-- the starred cases, those of our own for GEN_BLOCK, and demand 2
 pub mod StarredHold
+pub mod GenBlockRowsHold
 pub mod AddressLaws
 pub mod HeldLaws
 pub mod SizedLaws
@@ -8,6 +9,7 @@ pub mod TripletLaws
 pub mod BoundLaws
 pub mod QuestionLaws
 pub mod AcceptedLaws
+pub mod RunOwners
 pub mod Demand2Holds
 pub mod AnsweredLaws
 pub mod AnswerLaws
@@ -21,22 +23,25 @@ pub mod StepEnds
 pub mod StepLaws
 pub mod WalkLaws
 pub mod WalkTheorem
+pub mod RunWalks
+pub mod Walking
 pub mod StepSizes
 -- fills one after another, and demand 3
 pub mod FillCalls
 pub mod Fronts
 pub mod InTurnLaws
 pub mod SectionFills
-pub mod NeighbourLaws
 pub mod OnceLaws
+pub mod NeighbourLaws
 pub mod FillsExist
 pub mod FillLoopLaws
 pub mod ByteStores
 pub mod ByteFillsHold
 pub mod FillBounds
 pub mod Demand3Holds
--- checkpoints
+-- checkpoints, and runs
 pub mod StorageLaws
+pub mod OneRun
 pub mod CopyLaws
 pub mod CheckpointsHold
 -- every call
@@ -44,6 +49,7 @@ pub mod Demand1Holds
 -- declared bounds
 pub mod LinedLaws
 pub mod ZeroBounds
+mod ShiftedSections
 pub mod ShiftedHolds
 pub mod Document01Holds
 -- transfers

@@ -2,18 +2,20 @@
 use Prim.Native.Nat.{ℕ, suc, _+_, _-_, _/_, _≤_, _<_}
 use mathlib.Core.Path.{_≡_, refl, sym, ap, _∙_, subst}
 use mathlib.Core.Logic.{_⊎_, inl, inr}
-use mathlib.Core.Bool.{Bool, true, false, not, cond}
+use mathlib.Core.Bool.{Bool, true, false, not, cond, _&&_}
 use native.Mathlib.Nat.{div-eq-of-eq-mul-left}
 use native.Mathlib.Omega.{arith}
-use lib.Dec.{lit≤}
+use lib.Dec.{ltb, eqb, lit≤}
 use lib.ListN.{length, getD}
-use borrow.Author.Tests.{lt-ltb}
-use Rattle.model.specs.declared.Section.{Section}
+use borrow.Author.Tests.{ltb-true, lt-ltb, le-ltb}
+use Rattle.numbers.proofs.Tests.{both-true}
+use Rattle.model.specs.Mappings.{Dealing, cyclic, genBlock, Section}
 use Rattle.model.specs.declared.Step.{Step}
 use Rattle.model.specs.declared.Steps.{Steps}
 use Rattle.model.specs.declared.Steps.the-variants.{NoStep, OneStep, TwoSteps}
 use Rattle.model.specs.Sections.{layout, count, cell, places}
-use Rattle.model.specs.Steps.{stepsBy, Going, fits, goOn, spread, stepsOf, upward, going, cost, isPast, nextBy, nextPlace}
+use Rattle.model.specs.Steps.{stepsBy, Going, fits, goOn, spread, upward, cyclicSteps, cyclicGoing, isPast, nextBy, cyclicNext, runSteps, runNext}
+use Rattle.model.specs.Steps.{stepsDealt, stepsOf, costDealt, cost, nextDealt, nextPlace}
 use Rattle.model.specs.Questions.{firstNo, ofSection}
 use Rattle.model.specs.Calls.{walkOf}
 use Rattle.model.specs.Demand3.{apart, IsStep}
@@ -23,6 +25,7 @@ use Rattle.model.proofs.StepLaws.{Multiple}
 use Rattle.model.proofs.WalkTheorem.{going-nearest}
 use Rattle.model.proofs.InTurnLaws.{leads-next}
 use Rattle.model.proofs.SectionFills.{places-lead}
+use Rattle.model.proofs.OnceLaws.{at-place}
 
 -- ---- going on
 
@@ -47,20 +50,25 @@ at-most up k q NoStep = lit≤ tt
 at-most up k q (OneStep m) = lit≤ tt
 at-most up k q (TwoSteps r w) = gone (fits up k q (r .column)) (fits (not up) k q (w .column)) r w .cheap
 
--- going on takes at most 3 tries
-pub cost-le : (x : Section) (t : ℕ) → cost x t ≤ 3
-unfolding cost going
-cost-le x t = at-most (upward x) (layout x .block) _ (stepsOf x)
-
 at-least : (up : Bool) (k q : ℕ) (s : Steps) → 1 ≤ goOn up k q s .tries
 at-least up k q NoStep = lit≤ tt
 at-least up k q (OneStep m) = lit≤ tt
 at-least up k q (TwoSteps r w) = gone (fits up k q (r .column)) (fits (not up) k q (w .column)) r w .some
 
--- and at least one
+-- going on takes at most 3 tries, and at least one
+tries-in : (z : Dealing) (x : Section) (t : ℕ) → (1 ≤ costDealt z x t) × (costDealt z x t ≤ 3)
+unfolding cyclicGoing
+tries-in (cyclic k) x t =
+    (at-least (upward x) (layout x .block) _ (cyclicSteps x), at-most (upward x) (layout x .block) _ (cyclicSteps x))
+tries-in (genBlock sizes left) x t = (lit≤ tt, lit≤ tt)
+
+pub cost-le : (x : Section) (t : ℕ) → cost x t ≤ 3
+unfolding cost
+cost-le x t = tries-in (x .mapping .dealing) x t .1
+
 pub cost-some : (x : Section) (t : ℕ) → 1 ≤ cost x t
-unfolding cost going
-cost-some x t = at-least (upward x) (layout x .block) _ (stepsOf x)
+unfolding cost
+cost-some x t = tries-in (x .mapping .dealing) x t .0
 
 module _ (x : Section) (t : ℕ) where
   -- a next place that is not the count lies as many positions on as the cells walked have S
@@ -81,27 +89,54 @@ module _ (x : Section) (t : ℕ) where
   a-step (TwoSteps r w) up k q h = gone (fits up k q (r .column)) (fits (not up) k q (w .column)) r w .step
 
   -- where there is a next place, the section has two elements
-  two : nextPlace x t < count x → 2 ≤ count x
-  unfolding nextPlace nextBy stepsOf stepsBy
+  two : cyclicNext x t < count x → 2 ≤ count x
+  unfolding cyclicNext nextBy cyclicSteps stepsBy
   two h = go (le-or-lt 2 (count x))
     where
       go : (2 ≤ count x) ⊎ (count x < 2) → 2 ≤ count x
       go (inl l) = l
       go (inr l) = absurd (omega (arith, rw (lt-ltb (count x) 2 l) at h))
 
+-- ---- the next place lies a step on
+
+module _ (x : Section) (ok : firstNo (ofSection x) ≡ 0) (t : ℕ) where
+  cyclic-apart : cyclicNext x t < count x → IsStep (cyclicSteps x) (apart (cell x t) (cell x (cyclicNext x t)))
+  unfolding cyclicNext cyclicGoing
+  cyclic-apart l =
+      let m : Multiple (spread x) (cyclicGoing x t .cells) = going-nearest x ok (two x t l) t .multiple in
+      let e : cyclicNext x t ≡ t + m .index =
+      lands x t (cyclicGoing x t .cells) (cyclicSteps x) l ∙ ap (λ (z : ℕ). t + z) (div-eq-of-eq-mul-left (spread-pos x ok) (m .cells)) in
+      let d : apart (cell x t) (cell x (cyclicNext x t)) ≡ cyclicGoing x t .cells =
+      ap (λ (z : ℕ). apart (cell x t) (cell x z)) e ∙ cells-apart x ok t (m .index) (subst (λ (z : ℕ). z < count x) e l) ∙ sym (m .cells) in
+      subst (IsStep (cyclicSteps x)) (sym d) (a-step x t (cyclicSteps x) _ _ _ l)
+
+  -- along a run it is the next position
+  run-apart : (at : ℕ → ℕ) → t < count x → runNext at (count x) t < count x
+      → IsStep (runSteps (count x) (spread x)) (apart (cell x t) (cell x (runNext at (count x) t)))
+  unfolding runNext runSteps
+  run-apart at h l = go (ltb (suc t) (count x) && eqb (at (suc t)) (at t)) refl
+    where
+      go : (b : Bool) → (ltb (suc t) (count x) && eqb (at (suc t)) (at t)) ≡ b
+          → IsStep (runSteps (count x) (spread x)) (apart (cell x t) (cell x (runNext at (count x) t)))
+      go true e =
+          let k : suc t < count x = ltb-true (suc t) (count x) (both-true _ _ e .0) in
+          let s : t + 1 ≡ suc t = omega arith in
+          let d : apart (cell x t) (cell x (suc t)) ≡ spread x =
+          ap (λ (z : ℕ). apart (cell x t) (cell x z)) (sym s) ∙ cells-apart x ok t 1 (omega arith) ∙ omega arith in
+          rw (e, le-ltb (count x) 2 (omega arith)) d
+      go false e = absurd (omega (arith, rw e at l))
+
+  step-apart : (z : Dealing) → t < count x → nextDealt z x t < count x → IsStep (stepsDealt z x) (apart (cell x t) (cell x (nextDealt z x t)))
+  step-apart (cyclic k) h = cyclic-apart
+  step-apart (genBlock sizes left) h = run-apart _ h
+
 -- ---- neighbours
 
 module _ (x : Section) (ok : firstNo (ofSection x) ≡ 0) where
   pub neighbours-apart : (q j : ℕ) → suc j < length (places x q)
       → IsStep (stepsOf x) (apart (cell x (getD (places x q) j 0)) (cell x (getD (places x q) (suc j) 0)))
-  unfolding nextPlace going walkOf
+  unfolding nextPlace stepsOf walkOf
   neighbours-apart q j h =
       let r = leads-next (places-lead x q ok) j h in
       let t : ℕ = getD (places x q) j 0 in
-      let l : nextPlace x t < count x = subst (λ (z : ℕ). z < count x) (r .0) (r .1) in
-      let m : Multiple (spread x) (going x t .cells) = going-nearest x ok (two x t l) t .multiple in
-      let e : getD (places x q) (suc j) 0 ≡ t + m .index =
-      r .0 ∙ lands x t (going x t .cells) (stepsOf x) l ∙ ap (λ (z : ℕ). t + z) (div-eq-of-eq-mul-left (spread-pos x ok) (m .cells)) in
-      let d : apart (cell x t) (cell x (getD (places x q) (suc j) 0)) ≡ going x t .cells =
-      ap (λ (z : ℕ). apart (cell x t) (cell x z)) e ∙ cells-apart x ok t (m .index) (subst (λ (z : ℕ). z < count x) e (r .1)) ∙ sym (m .cells) in
-      subst (IsStep (stepsOf x)) (sym d) (a-step x t (stepsOf x) _ _ _ l)
+      rw (r .0) (step-apart x ok t (x .mapping .dealing) (at-place x q j (omega arith) .below) (subst (λ (z : ℕ). z < count x) (r .0) (r .1)))

@@ -8,14 +8,14 @@ use native.Mathlib.Omega.{arith}
 use lib.ListN.{length, getD, take, drop, length-map, take-append-drop}
 use Rattle.numbers.specs.Search.{tally}
 use Rattle.numbers.proofs.SearchLaws.{tally-none, listed, found}
-use Rattle.model.specs.declared.Section.{Section}
-use Rattle.model.specs.Ownership.{fromLower, declaredIndex, ownerOf, rank, backTo}
+use Rattle.model.specs.Mappings.{Section}
+use Rattle.model.specs.Ownership.{fromLower, declaredIndex, owner, rank, backTo}
 use Rattle.model.specs.Sections.{elementAt, layout, count, index, address, ownsAt, places, firstPlace}
 use Rattle.model.specs.Filling.{got, reported}
 use Rattle.model.specs.Questions.{firstNo, ofSection}
 use Rattle.model.specs.Calls.{walkOf}
 use Rattle.model.specs.Demand3.{Form, Fills, outcomes, placeAfter, Reached, StandsFor, InOneList}
-use Rattle.model.proofs.AcceptedLaws.{accepted}
+use Rattle.model.proofs.AcceptedLaws.{mapping-yes}
 use Rattle.model.proofs.Demand2Holds.{owner-lt}
 use Rattle.model.proofs.SectionLaws.{index-lt, declared-at, index-inj}
 use Rattle.model.proofs.AddressLaws.{owns-of, of-owns, back-rank}
@@ -30,7 +30,7 @@ getD-map g (x ∷ l) (suc j) h = getD-map g l j (le-of-suc-le-suc h)
 -- what stands at place j of processor q's list
 pub record At (x : Section) (q j t : ℕ) : Type 0 where
   pub below : t < count x
-  pub owner : ownerOf (layout x) (index x t) ≡ q
+  pub owner : owner (x .mapping) (index x t) ≡ q
   pub nth : tally (ownsAt x q) t ≡ j
 
 pub at-place : (x : Section) (q j : ℕ) → j < length (places x q) → At x q j (getD (places x q) j 0)
@@ -39,17 +39,17 @@ at-place x q j h =
     let r = listed (ownsAt x q) (count x) 0 j h in
     record {
       below = omega (arith, r .below);
-      owner = of-owns (ownerOf (layout x)) q _ (r .passes);
+      owner = of-owns (owner (x .mapping)) q _ (r .passes);
       nth = omega (arith, r .nth, tally-none (ownsAt x q));
     }
 
 leads-back : (x : Section) → firstNo (ofSection x) ≡ 0 → (q j t : ℕ) → At x q j t
-    → declaredIndex (x .mapping) (backTo (ownerOf (layout x)) (layout x .size) q (address x t)) ≡ elementAt (x .triplet) t
+    → declaredIndex (x .mapping) (backTo (owner (x .mapping)) (layout x .size) q (address x t)) ≡ elementAt (x .triplet) t
 unfolding address
 leads-back x ok q j t a =
     ap (declaredIndex (x .mapping))
-    (ap (λ (o : ℕ). backTo (ownerOf (layout x)) (layout x .size) o (rank (ownerOf (layout x)) (index x t))) (sym (a .owner))
-    ∙ back-rank (ownerOf (layout x)) (layout x .size) (index x t) (index-lt x ok t (a .below)))
+    (ap (λ (o : ℕ). backTo (owner (x .mapping)) (layout x .size) o (rank (owner (x .mapping)) (index x t))) (sym (a .owner))
+    ∙ back-rank (owner (x .mapping)) (layout x .size) (index x t) (index-lt x ok t (a .below)))
     ∙ declared-at x ok t (a .below)
 
 module _ (f : Form) (same : Same f) (x : Section) (ok : firstNo (ofSection x) ≡ 0) where
@@ -82,7 +82,7 @@ module _ (f : Form) (same : Same f) (x : Section) (ok : firstNo (ofSection x) �
 
     -- and for no other
     only : (t : ℕ) → t < count x → (q j : ℕ) → StandsFor x lists t q j
-        → (q ≡ ownerOf (layout x) (index x t)) × (j ≡ tally (ownsAt x (ownerOf (layout x) (index x t))) t)
+        → (q ≡ owner (x .mapping) (index x t)) × (j ≡ tally (ownsAt x (owner (x .mapping) (index x t))) t)
     unfolding index
     only t h q j s =
         let l : j < length (places x q) = rw (all-of q (s .processor), length-map) at (s .entry) in
@@ -93,11 +93,11 @@ module _ (f : Form) (same : Same f) (x : Section) (ok : firstNo (ofSection x) �
         (sym (b .owner), rw (b .owner) (sym (b .nth)))
 
     pub once : (t : ℕ) → t < count x → InOneList x lists t
-    unfolding places ownsAt
+    unfolding places ownsAt layout
     once t h =
-        let q : ℕ = ownerOf (layout x) (index x t) in
-        let r = found (ownsAt x q) (count x) 0 t zero-le (omega arith) (owns-of (ownerOf (layout x)) q (index x t) refl) in
-        let s : StandsFor x lists t q (r .0) = rw (r .2) at (entry q (r .0) (owner-lt (layout x) (accepted x ok .sized .processors-pos) (index x t)) (r .1)) in
+        let q : ℕ = owner (x .mapping) (index x t) in
+        let r = found (ownsAt x q) (count x) 0 t zero-le (omega arith) (owns-of (owner (x .mapping)) q (index x t) refl) in
+        let s : StandsFor x lists t q (r .0) = rw (r .2) at (entry q (r .0) (owner-lt (x .mapping) (mapping-yes x ok) (index x t) (index-lt x ok t h)) (r .1)) in
         record {
           processor = q;
           entry = r .0;

@@ -1,8 +1,12 @@
 -- Everything that is promised of the definitions holds.
-use Rattle.model.specs.declared.Section.{Section}
+use Prim.Native.Nat.{ℕ}
+use mathlib.Core.Bool.{Bool, true, false, cond}
+use lib.Dec.{ltb}
+use Rattle.model.specs.declared.Steps.the-variants.{NoStep, OneStep}
+use Rattle.model.specs.Mappings.{Dealing, cyclic, genBlock, Section}
 use Rattle.model.specs.Ownership.{courseCells}
 use Rattle.model.specs.Sections.{layout, count}
-use Rattle.model.specs.Steps.{spread, stepsOf}
+use Rattle.model.specs.Steps.{spread, cyclicSteps, runSteps, stepsDealt, stepsOf}
 use Rattle.model.specs.Promises.{Accepts, Balanced, Promises}
 use Rattle.model.proofs.AcceptedLaws.{accepted}
 use Rattle.model.proofs.SectionLaws.{spread-pos}
@@ -18,14 +22,32 @@ use Rattle.model.proofs.CheckpointsHold.{checkpoints}
 use Rattle.model.proofs.ShiftedHolds.{shifted}
 use Rattle.model.proofs.Document01Holds.{as-document-01}
 use Rattle.model.proofs.StarredHold.{starred}
+use Rattle.model.proofs.GenBlockRowsHold.{rows-hold}
 
-balanced : (x : Section) → Accepts x → Balanced (layout x .block) (spread x) (stepsOf x)
-unfolding stepsOf
-balanced x ok =
+cyclic-balanced : (x : Section) → Accepts x → Balanced (layout x .block) (spread x) (cyclicSteps x)
+unfolding cyclicSteps
+cyclic-balanced x ok =
     let z = accepted x ok .sized in
     let h = course (layout x) (z .processors-pos) (z .block-pos) (spread x) (spread-pos x ok) in
     step-cases (Balanced (layout x .block) (spread x)) (count x) (courseCells (layout x)) (layout x .block) (spread x)
     (λ few. tt) (λ several d. (determinant h d, never-both h d)) (λ several d. tt)
+
+-- one step, or none
+run-balanced : (n k S : ℕ) → Balanced k S (runSteps n S)
+unfolding runSteps
+run-balanced n k S = go (ltb n 2)
+  where
+    go : (b : Bool) → Balanced k S (cond b NoStep (OneStep (record { cells = S; courses = 0; column = S })))
+    go true = tt
+    go false = tt
+
+balanced : (x : Section) → Accepts x → Balanced (layout x .block) (spread x) (stepsOf x)
+unfolding stepsOf
+balanced x ok = go (x .mapping .dealing)
+  where
+    go : (z : Dealing) → Balanced (layout x .block) (spread x) (stepsDealt z x)
+    go (cyclic k) = cyclic-balanced x ok
+    go (genBlock sizes left) = run-balanced (count x) (layout x .block) (spread x)
 
 pub promises : Promises
 promises = record {
@@ -42,4 +64,5 @@ promises = record {
   assignment = assigned;
   checkpoints = checkpoints;
   starred = starred;
+  gen-block = rows-hold;
 }

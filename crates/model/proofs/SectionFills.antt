@@ -6,7 +6,7 @@ use mathlib.Core.Bool.{Bool, true, false}
 use mathlib.Core.List.{List, [], _∷_, map}
 use lib.Dec.{eqb}
 use borrow.Author.Tests.{eqb-true}
-use Rattle.model.specs.declared.Section.{Section}
+use Rattle.model.specs.Mappings.{Section}
 use Rattle.model.specs.Ownership.{nat}
 use Rattle.model.specs.Sections.{ownsAt, places, firstPlace}
 use Rattle.model.specs.Filling.{Request, Outcome, answer, standing}
@@ -14,7 +14,7 @@ use Rattle.model.specs.Questions.{firstNo, ofSection}
 use Rattle.model.specs.Calls.{FillCall, walkOf, requestOf, fill}
 use Rattle.model.specs.Demand3.{Leads, Follows, Form, FollowsOn, Fills, outcomes, InTurn}
 use Rattle.model.proofs.FillCalls.{passed}
-use Rattle.model.proofs.WalkTheorem.{Walks, walks}
+use Rattle.model.proofs.Walking.{Walks, walks}
 use Rattle.model.proofs.InTurnLaws.{leads-passing, in-turn}
 
 -- ---- one call

@@ -8,7 +8,7 @@ use lib.Dec.{ltb}
 use lib.IntN.{ℤ, pos, negsuc, negℤ, natAbs, _+ℤ_, _-ℤ_, _*ℤ_, zero-*ℤ, +ℤ-idr, pos-ne-negsuc}
 use lib.Signed.{nonNeg}
 use borrow.Author.Tests.{ltb-false, ltb-true, le-ltb}
-use Rattle.model.specs.declared.Section.{Section}
+use Rattle.model.specs.Mappings.{Section}
 use Rattle.model.specs.Ownership.{nat, fromLower, declaredIndex, cellOf}
 use Rattle.model.specs.Sections.{elementAt, layout, count, index, cell}
 use Rattle.model.specs.Steps.{spread, upward}

@@ -1,20 +1,22 @@
 -- How large the numbers of a section's steps are.
 use Prim.Native.Nat.{ℕ, _+_, _*_, _^_, _≤_, _<_, zero-le}
-use mathlib.Core.Path.{_≡_}
-use mathlib.Core.Bool.{Bool}
+use mathlib.Core.Path.{_≡_, refl}
+use mathlib.Core.Bool.{Bool, true, false}
 use native.Mathlib.Nat.{div-le-self, mul-le-mul-right}
 use native.Mathlib.Omega.{arith}
+use lib.Dec.{ltb}
+use borrow.Author.Tests.{ltb-false}
 use Rattle.numbers.specs.Search.{passing, headOr}
 use Rattle.numbers.specs.Gcd.{gcd}
 use Rattle.numbers.proofs.Division.{lt-of-mul, product-le}
 use Rattle.numbers.proofs.SearchLaws.{head-le}
-use Rattle.model.specs.declared.Section.{Section}
+use Rattle.model.specs.Mappings.{Dealing, cyclic, genBlock, Section}
 use Rattle.model.specs.declared.Step.{Step}
 use Rattle.model.specs.declared.Steps.{Steps}
 use Rattle.model.specs.declared.Steps.the-variants.{NoStep, OneStep, TwoSteps}
 use Rattle.model.specs.Ownership.{courseCells}
 use Rattle.model.specs.Sections.{layout, count}
-use Rattle.model.specs.Steps.{processorIndex, returnIndex, processorStep, returnStep, oneStep, spread, stepsOf}
+use Rattle.model.specs.Steps.{processorIndex, returnIndex, processorStep, returnStep, oneStep, spread, cyclicSteps, runSteps, stepsDealt, stepsOf}
 use Rattle.model.specs.Questions.{firstNo, ofSection}
 use Rattle.model.proofs.AcceptedLaws.{Accepted, accepted}
 use Rattle.model.proofs.SizedLaws.{course-high}
@@ -62,16 +64,16 @@ module _ {M k S : ℕ} (h : Course M k S) where
 pub record Low (r : Step) : Type 0 where
   pub cells : r .cells < 2 ^ 57
   pub courses : r .courses < 2 ^ 31
-  pub column : r .column ≤ 65535
+  pub column : r .column < 2 ^ 31
 
 abbrev pub AllLow : Steps → Type 0
 AllLow NoStep = Unit {0}
 AllLow (OneStep r) = Low r
 AllLow (TwoSteps r w) = Low r × Low w
 
-pub steps-low : (x : Section) → firstNo (ofSection x) ≡ 0 → AllLow (stepsOf x)
-unfolding stepsOf courseCells
-steps-low x ok =
+pub cyclic-low : (x : Section) → firstNo (ofSection x) ≡ 0 → AllLow (cyclicSteps x)
+unfolding cyclicSteps courseCells
+cyclic-low x ok =
     step-cases AllLow (count x) M k S
     (λ l. tt)
     (λ l d. (low l _ (processor-limited h d), low l _ (return-limited h d)))
@@ -101,3 +103,21 @@ steps-low x ok =
           courses = omega (arith, b .courses);
           column = omega (arith, b .column, a .sized .block-high);
         }
+
+run-low : (x : Section) → firstNo (ofSection x) ≡ 0 → AllLow (runSteps (count x) (spread x))
+unfolding runSteps
+run-low x ok = go (ltb (count x) 2) refl
+  where
+    go : (b : Bool) → ltb (count x) 2 ≡ b → AllLow (runSteps (count x) (spread x))
+    go true e = rw e tt
+    go false e =
+        let s = spread-high x ok (ltb-false (count x) 2 e) in
+        rw e (record { cells = omega arith; courses = omega arith; column = omega arith })
+
+pub steps-low : (x : Section) → firstNo (ofSection x) ≡ 0 → AllLow (stepsOf x)
+unfolding stepsOf
+steps-low x ok = go (x .mapping .dealing)
+  where
+    go : (z : Dealing) → AllLow (stepsDealt z x)
+    go (cyclic k) = cyclic-low x ok
+    go (genBlock sizes left) = run-low x ok

@@ -1,22 +1,23 @@
 -- Transfers: over all senders and receivers each position of the section stands in exactly one pair, once, so that the pairs'
 -- entries add up to the count; a pair's are in rising order. Assumes nothing.
-use Prim.Native.Nat.{ℕ, zero, suc, _+_, _<_, zero-le}
+use Prim.Native.Nat.{ℕ, zero, suc, _+_, _≤_, _<_, zero-le}
 use mathlib.Core.Path.{_≡_, refl, sym, ap, _∙_}
 use mathlib.Core.Bool.{Bool, true, false, cond}
-use native.Mathlib.Nat.{zero-add}
+use native.Mathlib.Nat.{zero-add, le-refl}
 use native.Mathlib.Omega.{arith}
 use lib.ListN.{length, getD}
 use Rattle.numbers.specs.Search.{passing, tally, sumBelow}
 use Rattle.numbers.proofs.Tests.{both-true}
 use Rattle.numbers.proofs.SearchLaws.{tally-none, tally-next, listed, found, passing-rises, passing-length}
 use Rattle.numbers.proofs.RangeSums.{sum-same, sum-add, sum-zero, sum-one}
-use Rattle.model.specs.declared.Section.{Section}
-use Rattle.model.specs.Ownership.{ownerOf}
+use Rattle.model.specs.Mappings.{Section}
+use Rattle.model.specs.Ownership.{owner}
 use Rattle.model.specs.Sections.{layout, count, index, ownsAt}
 use Rattle.model.specs.Questions.{firstNo, ofSection}
 use Rattle.model.specs.Transfers.{isEntry, pairPlaces, InPair, InOnePair, entriesInAll, Assigned}
-use Rattle.model.proofs.AcceptedLaws.{accepted}
+use Rattle.model.proofs.AcceptedLaws.{mapping-yes}
 use Rattle.model.proofs.Demand2Holds.{owner-lt}
+use Rattle.model.proofs.SectionLaws.{index-lt}
 use Rattle.model.proofs.AddressLaws.{owns-of, of-owns}
 
 -- as many stand in the list as are counted
@@ -30,32 +31,32 @@ rising : (left right : Section) (q m i j : ℕ) → i < j → j < length (pairPl
 unfolding pairPlaces
 rising left right q m = passing-rises (isEntry left right q m) (count left) 0
 
-module _ (left right : Section) (l-ok : firstNo (ofSection left) ≡ 0) (r-ok : firstNo (ofSection right) ≡ 0) where
+module _ (left right : Section) (l-ok : firstNo (ofSection left) ≡ 0) (r-ok : firstNo (ofSection right) ≡ 0) (same : count left ≡ count right) where
   -- the owners of the elements at position t
   s : ℕ → ℕ
-  s t = ownerOf (layout right) (index right t)
+  s t = owner (right .mapping) (index right t)
 
   r : ℕ → ℕ
-  r t = ownerOf (layout left) (index left t)
+  r t = owner (left .mapping) (index left t)
 
-  s-lt : (t : ℕ) → s t < layout right .processors
-  unfolding s
-  s-lt t = owner-lt (layout right) (accepted right r-ok .sized .processors-pos) (index right t)
+  s-lt : (t : ℕ) → t < count left → s t < layout right .processors
+  unfolding s layout
+  s-lt t h = owner-lt (right .mapping) (mapping-yes right r-ok) (index right t) (index-lt right r-ok t (omega arith))
 
-  r-lt : (t : ℕ) → r t < layout left .processors
-  unfolding r
-  r-lt t = owner-lt (layout left) (accepted left l-ok .sized .processors-pos) (index left t)
+  r-lt : (t : ℕ) → t < count left → r t < layout left .processors
+  unfolding r layout
+  r-lt t h = owner-lt (left .mapping) (mapping-yes left l-ok) (index left t) (index-lt left l-ok t h)
 
   entry-owners : (q m t : ℕ) → isEntry left right q m t ≡ true → (q ≡ s t) × (m ≡ r t)
   unfolding isEntry ownsAt s r
   entry-owners q m t e =
       let b = both-true (ownsAt right q t) (ownsAt left m t) e in
-      (sym (of-owns (ownerOf (layout right)) q (index right t) (b .0)), sym (of-owns (ownerOf (layout left)) m (index left t) (b .1)))
+      (sym (of-owns (owner (right .mapping)) q (index right t) (b .0)), sym (of-owns (owner (left .mapping)) m (index left t) (b .1)))
 
   owners-entry : (t : ℕ) → isEntry left right (s t) (r t) t ≡ true
   unfolding isEntry ownsAt s r
   owners-entry t =
-      rw (owns-of (ownerOf (layout right)) (s t) (index right t) refl, owns-of (ownerOf (layout left)) (r t) (index left t) refl)
+      rw (owns-of (owner (right .mapping)) (s t) (index right t) refl, owns-of (owner (left .mapping)) (r t) (index left t) refl)
 
   -- an entry's pair is that of the owners, and its place is how many entries lie before it
   entry-is : (t q m i : ℕ) → InPair left right t q m i → (q ≡ s t) × (m ≡ r t) × (i ≡ tally (isEntry left right q m) t)
@@ -71,7 +72,7 @@ module _ (left right : Section) (l-ok : firstNo (ofSection left) ≡ 0) (r-ok : 
   once t h =
       let f = found (isEntry left right (s t) (r t)) (count left) 0 t zero-le (omega arith) (owners-entry t) in
       let stands : InPair left right t (s t) (r t) (f .0) =
-      record { sender = s-lt t; receiver = r-lt t; entry = f .1; position = f .2 } in
+      record { sender = s-lt t h; receiver = r-lt t h; entry = f .1; position = f .2 } in
       record {
         sender = s t;
         receiver = r t;
@@ -100,13 +101,13 @@ module _ (left right : Section) (l-ok : firstNo (ofSection left) ≡ 0) (r-ok : 
   over : (ℕ → ℕ → ℕ) → ℕ
   over f = sumBelow (layout right .processors) (λ q. sumBelow (layout left .processors) (f q))
 
-  over-one : (t : ℕ) → over (one t) ≡ 1
+  over-one : (t : ℕ) → t < count left → over (one t) ≡ 1
   unfolding over one
-  over-one t =
+  over-one t h =
       let n : ℕ = layout left .processors in
-      sum-one (layout right .processors) (s t) (λ q. sumBelow n (one t q)) (s-lt t)
+      sum-one (layout right .processors) (s t) (λ q. sumBelow n (one t q)) (s-lt t h)
       (λ q f. sum-same n (one t q) (λ m. 0) (λ m l. one-none t q m (λ e. f (e .0))) ∙ sum-zero n)
-      ∙ sum-one n (r t) (one t (s t)) (r-lt t) (λ m f. one-none t (s t) m (λ e. f (e .1)))
+      ∙ sum-one n (r t) (one t (s t)) (r-lt t h) (λ m f. one-none t (s t) m (λ e. f (e .1)))
       ∙ ap (λ (b : Bool). cond b 1 0) (owners-entry t)
 
   over-add : (f g : ℕ → ℕ → ℕ) → over (λ q m. f q m + g q m) ≡ over f + over g
@@ -126,16 +127,16 @@ module _ (left right : Section) (l-ok : firstNo (ofSection left) ≡ 0) (r-ok : 
       sum-same (layout right .processors) _ (λ q. 0) (λ q l. sum-zero (layout left .processors)) ∙ sum-zero (layout right .processors)
 
   -- the pairs' entries below position n
-  all-below : (n : ℕ) → over (λ q m. tally (isEntry left right q m) n) ≡ n
+  all-below : (n : ℕ) → n ≤ count left → over (λ q m. tally (isEntry left right q m) n) ≡ n
   unfolding one
-  all-below zero = over-same _ (λ q m. 0) (λ q m. tally-none (isEntry left right q m)) ∙ over-none
-  all-below (suc n) =
+  all-below zero h = over-same _ (λ q m. 0) (λ q m. tally-none (isEntry left right q m)) ∙ over-none
+  all-below (suc n) h =
       omega (
         arith,
         over-same (λ q m. tally (isEntry left right q m) (suc n)) _ (λ q m. tally-next (isEntry left right q m) n),
         over-add (λ q m. tally (isEntry left right q m) n) (one n),
-        all-below n,
-        over-one n,
+        all-below n (omega arith),
+        over-one n h,
       )
 
   pub assigned : Assigned left right
@@ -145,6 +146,6 @@ module _ (left right : Section) (l-ok : firstNo (ofSection left) ≡ 0) (r-ok : 
     all =
         over-same (λ q m. length (pairPlaces left right q m)) (λ q m. tally (isEntry left right q m) (count left))
         (λ q m. passing-count (isEntry left right q m) (count left))
-        ∙ all-below (count left);
+        ∙ all-below (count left) (le-refl (count left));
     rising = rising left right;
   }

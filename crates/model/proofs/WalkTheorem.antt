@@ -1,5 +1,5 @@
--- The walk theorem: in an accepted section, the next place after a position is the next position that the same processor
--- owns, or the count.
+-- The walk theorem of the cyclic dealing: in an accepted section, the next place after a position is the next position that the
+-- same processor owns, or the count.
 use Prim.Native.Nat.{ℕ, suc, _+_, _-_, _*_, _/_, _≤_, _<_}
 use mathlib.Core.Path.{_≡_, sym, ap, _∙_, subst}
 use mathlib.Core.Bool.{Bool, true, false, cond}
@@ -11,12 +11,12 @@ use borrow.Author.Tests.{lt-ltb, le-ltb}
 use Rattle.numbers.specs.Search.{passing, headOr}
 use Rattle.numbers.proofs.Division.{lt-of-mul}
 use Rattle.numbers.proofs.SearchLaws.{passing-none, head-skip}
-use Rattle.model.specs.declared.Section.{Section}
+use Rattle.model.specs.Mappings.{Section}
 use Rattle.model.specs.declared.Steps.{Steps}
 use Rattle.model.specs.declared.Steps.the-variants.{NoStep, OneStep, TwoSteps}
-use Rattle.model.specs.Ownership.{courseCells, ownerOf}
-use Rattle.model.specs.Sections.{layout, count, index, cell, ownsAt}
-use Rattle.model.specs.Steps.{stepsBy, spread, stepsOf, upward, going, isPast, nextBy, nextPlace}
+use Rattle.model.specs.Ownership.{courseCells, ownerOf, owns}
+use Rattle.model.specs.Sections.{layout, count, index, cell}
+use Rattle.model.specs.Steps.{stepsBy, spread, upward, cyclicSteps, cyclicGoing, isPast, nextBy, cyclicNext}
 use Rattle.model.specs.Questions.{firstNo, ofSection}
 use Rattle.model.proofs.AcceptedLaws.{accepted}
 use Rattle.model.proofs.SectionLaws.{Moved, spread-pos, cells-moved}
@@ -25,11 +25,15 @@ use Rattle.model.proofs.Rests.{le-or-lt}
 use Rattle.model.proofs.StepLaws.{step-cases}
 use Rattle.model.proofs.WalkLaws.{leb-same, Nearest, walk-cells}
 
+-- does processor q own the element at position t?
+abbrev pub cyclicOwns : Section → ℕ → ℕ → Bool
+cyclicOwns x q t = owns (ownerOf (layout x)) q (index x t)
+
 -- the step rule leads to the next position that the processor owns, or to the count
-unfoldable pub Walks : Section → Type 0
-Walks x =
-    (q t : ℕ) → t < count x → ownsAt x q t ≡ true
-    → nextPlace x t ≡ headOr (count x) (passing (ownsAt x q) (suc t) (count x - suc t))
+unfoldable pub CyclicWalks : Section → Type 0
+CyclicWalks x =
+    (q t : ℕ) → t < count x → cyclicOwns x q t ≡ true
+    → cyclicNext x t ≡ headOr (count x) (passing (cyclicOwns x q) (suc t) (count x - suc t))
 
 -- ---- is there a step?
 
@@ -45,8 +49,8 @@ some-steps n M k S l = step-cases Some n M k S (λ h. omega arith) (λ h d. tt) 
 
 module _ (x : Section) (ok : firstNo (ofSection x) ≡ 0) where
   -- from any position of two or more, going on leads to the nearest cell of the same owner
-  pub going-nearest : 2 ≤ count x → (t : ℕ) → Nearest (layout x) (upward x) (cell x t) (spread x) (going x t .cells)
-  unfolding going stepsOf
+  pub going-nearest : 2 ≤ count x → (t : ℕ) → Nearest (layout x) (upward x) (cell x t) (spread x) (cyclicGoing x t .cells)
+  unfolding cyclicGoing cyclicSteps
   going-nearest h t =
       let z = accepted x ok .sized in
       walk-cells (layout x) (z .processors-pos) (z .block-pos) (spread x) (spread-pos x ok) (count x) h (upward x) (cell x t)
@@ -89,24 +93,24 @@ module _ (x : Section) (ok : firstNo (ofSection x) ≡ 0) where
 
     -- with two or more positions, the next place by how many positions the cells to go are
     pub next-place-by : 2 ≤ count x
-        → let u : ℕ = t + going x t .cells / spread x in nextPlace x t ≡ cond (ltb u (count x)) u (count x)
-    unfolding nextPlace stepsOf
+        → let u : ℕ = t + cyclicGoing x t .cells / spread x in cyclicNext x t ≡ cond (ltb u (count x)) u (count x)
+    unfolding cyclicNext cyclicSteps
     next-place-by two =
         let m = going-nearest two t .multiple in
-        let e : going x t .cells / spread x ≡ m .index = div-eq-of-eq-mul-left (spread-pos x ok) (m .cells) in
-        next-by (stepsOf x) (some-steps (count x) (courseCells (layout x)) (layout x .block) (spread x) two) (going x t .cells) (m .index) (m .cells)
+        let e : cyclicGoing x t .cells / spread x ≡ m .index = div-eq-of-eq-mul-left (spread-pos x ok) (m .cells) in
+        next-by (cyclicSteps x) (some-steps (count x) (courseCells (layout x)) (layout x .block) (spread x) two) (cyclicGoing x t .cells) (m .index) (m .cells)
         ∙ turned (m .index) ∙ ap (λ (i : ℕ). cond (ltb (t + i) (count x)) (t + i) (count x)) (sym e)
 
-    module _ (two : 2 ≤ count x) (q : ℕ) (mine : ownsAt x q t ≡ true) where
-      w : Nearest (layout x) (upward x) (cell x t) (spread x) (going x t .cells)
+    module _ (two : 2 ≤ count x) (q : ℕ) (mine : cyclicOwns x q t ≡ true) where
+      w : Nearest (layout x) (upward x) (cell x t) (spread x) (cyclicGoing x t .cells)
       w = going-nearest two t
 
       i : ℕ
       i = w .multiple .index
 
       -- no position before t + i is the processor's
-      before : (u : ℕ) → t < u → u < t + i → u < count x → ownsAt x q u ≡ false
-      unfolding i ownsAt ownerOf cell
+      before : (u : ℕ) → t < u → u < t + i → u < count x → cyclicOwns x q u ≡ false
+      unfolding i ownerOf cell
       before u a b l =
           unowned (ownerOf (layout x)) q (index x u)
           (λ o. clash (w .least (u - t) (cell x u) (omega arith) moved (o ∙ sym (of-owns (ownerOf (layout x)) q (index x t) mine))))
@@ -117,39 +121,39 @@ module _ (x : Section) (ok : firstNo (ofSection x) ≡ 0) where
           moved : Moved (upward x) (cell x t) (cell x u) ((u - t) * spread x)
           moved = subst (λ (z : ℕ). Moved (upward x) (cell x t) (cell x z) ((u - t) * spread x)) there (cells-moved x ok t (u - t) (omega arith))
 
-          clash : going x t .cells ≤ (u - t) * spread x → ⊥
+          clash : cyclicGoing x t .cells ≤ (u - t) * spread x → ⊥
           clash g =
               let s : (u - t) * spread x < w .multiple .index * spread x = mul-lt-mul-of-pos-right (omega arith) (spread-pos x ok) in
               omega (arith, w .multiple .cells)
 
-      lands : t + i < count x → ownsAt x q (t + i) ≡ true
-      unfolding i ownsAt ownerOf cell
+      lands : t + i < count x → cyclicOwns x q (t + i) ≡ true
+      unfolding i ownerOf cell
       lands l =
           owns-of (ownerOf (layout x)) q (index x (t + i))
           (w .lands (cell x (t + i)) (rw (w .multiple .cells) (cells-moved x ok t i l)) ∙ of-owns (ownerOf (layout x)) q (index x t) mine)
 
-      next-owned : headOr (count x) (passing (ownsAt x q) (suc t) (count x - suc t)) ≡ cond (ltb (t + i) (count x)) (t + i) (count x)
+      next-owned : headOr (count x) (passing (cyclicOwns x q) (suc t) (count x - suc t)) ≡ cond (ltb (t + i) (count x)) (t + i) (count x)
       unfolding i
       next-owned =
-          subst (λ (z : ℕ). headOr (count x) (passing (ownsAt x q) (suc t) (count x - suc t)) ≡ cond (ltb z (count x)) z (count x)) there
-          (head-skip (ownsAt x q) (count x) (i - 1) (count x - suc t) (suc t) (omega arith)
+          subst (λ (z : ℕ). headOr (count x) (passing (cyclicOwns x q) (suc t) (count x - suc t)) ≡ cond (ltb z (count x)) z (count x)) there
+          (head-skip (cyclicOwns x q) (count x) (i - 1) (count x - suc t) (suc t) (omega arith)
           (λ u a b. before u a (omega (arith, there)))
           (λ l. rw there (lands (omega (arith, there)))))
         where
           there : suc t + (i - 1) ≡ t + i
           there = omega (arith, w .multiple .some)
 
-      walk-on : nextPlace x t ≡ headOr (count x) (passing (ownsAt x q) (suc t) (count x - suc t))
+      walk-on : cyclicNext x t ≡ headOr (count x) (passing (cyclicOwns x q) (suc t) (count x - suc t))
       unfolding i
       walk-on =
-          let e : going x t .cells / spread x ≡ i = div-eq-of-eq-mul-left (spread-pos x ok) (w .multiple .cells) in
+          let e : cyclicGoing x t .cells / spread x ≡ i = div-eq-of-eq-mul-left (spread-pos x ok) (w .multiple .cells) in
           next-place-by two ∙ ap (λ (n : ℕ). cond (ltb (t + n) (count x)) (t + n) (count x)) e ∙ sym next-owned
 
-pub walks : (x : Section) → firstNo (ofSection x) ≡ 0 → Walks x
-unfolding Walks nextPlace nextBy stepsOf stepsBy headOr
-walks x ok q t h e = go (le-or-lt 2 (count x))
+pub cyclic-walks : (x : Section) → firstNo (ofSection x) ≡ 0 → CyclicWalks x
+unfolding CyclicWalks cyclicNext nextBy cyclicSteps stepsBy headOr
+cyclic-walks x ok q t h e = go (le-or-lt 2 (count x))
   where
-    go : (2 ≤ count x) ⊎ (count x < 2) → nextPlace x t ≡ headOr (count x) (passing (ownsAt x q) (suc t) (count x - suc t))
+    go : (2 ≤ count x) ⊎ (count x < 2) → cyclicNext x t ≡ headOr (count x) (passing (cyclicOwns x q) (suc t) (count x - suc t))
     go (inl two) = walk-on x ok t h two q e
     go (inr l) =
         let z : count x - suc t ≡ 0 = omega arith in

@@ -9,7 +9,7 @@ use lib.Signed.{leZ, ltZ}
 use borrow.Author.Tests.{le-leb, lt-ltb}
 use Rattle.numbers.proofs.Tests.{both-true}
 use Rattle.numbers.proofs.Signed.{minus}
-use Rattle.model.specs.declared.Mapping.{Mapping}
+use Rattle.model.specs.Mappings.{Mapping}
 use Rattle.model.specs.declared.Layout.{Layout}
 use Rattle.model.specs.Ownership.{nat, cellUnder, lastIndex, lastCell, layoutOf}
 use Rattle.model.specs.Sized.{Sized}
@@ -69,7 +69,7 @@ module _ (m : Mapping) (ok : Passes m) (some : 1 ≤ layoutOf m .size) where
   bounds-fit : boundsFit (fromZero m) ≡ true
   bounds-fit =
       let yes-all = all-yes (ofMapping m) refl ok in
-      zero-bounds (fromZero m) refl refl (between-is 1 2147483647 (m .cells) (yes-all .0)) (between-is 0 2147483647 (m .size) (yes-all .1 .1 .1 .1 .0))
+      zero-bounds (fromZero m) refl refl (between-is 1 2147483647 (m .cells) (yes-all .0)) (between-is 0 2147483647 (m .size) (yes-all .1 .1 .1 .1 .1 .0))
 
   cells-in : cellsFit (fromZero m) ≡ true
   unfolding cellsFit
@@ -87,8 +87,8 @@ module _ (m : Mapping) (ok : Passes m) (some : 1 ≤ layoutOf m .size) where
   pub passes : Passes (fromZero m)
   passes =
       let yes-all = all-yes (ofMapping m) refl ok in
-      let stride = both-true (between (pos 1) most (m .stride)) _ (yes-all .1 .1 .1 .0) .0 in
+      let stride = both-true (between (pos 1) most (m .stride)) _ (yes-all .1 .1 .1 .1 .0) .0 in
       none-no (ofMapping (fromZero m)) (
         yes-all .0,
-        (yes-all .1 .0, (yes-all .1 .1 .0, (rw (stride, offset-in), (yes-all .1 .1 .1 .1 .0, (bounds-fit, (cells-in, tt)))))),
+        (yes-all .1 .0, (yes-all .1 .1 .0, (yes-all .1 .1 .1 .0, (rw (stride, offset-in), (yes-all .1 .1 .1 .1 .1 .0, (bounds-fit, (cells-in, tt))))))),
       )

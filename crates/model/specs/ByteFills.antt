@@ -5,7 +5,7 @@ use mathlib.Core.List.{List, [], _∷_}
 use lib.IntN.{ℤ}
 use lib.ListN.{take}
 use Rattle.numbers.specs.Words.{wordsOf, storeAt}
-use Rattle.model.specs.declared.Section.{Section}
+use Rattle.model.specs.Mappings.{Section}
 use Rattle.model.specs.Filling.{Outcome}
 use Rattle.model.specs.Calls.{FillCall, fill}
 

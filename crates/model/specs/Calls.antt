@@ -5,12 +5,11 @@ use mathlib.Core.Bool.{cond}
 use mathlib.Core.List.{List, _++_}
 use lib.Dec.{eqb}
 use lib.IntN.{ℤ, pos, negℤ}
-use Rattle.model.specs.declared.Mapping.{Mapping}
-use Rattle.model.specs.declared.Section.{Section}
+use Rattle.model.specs.Mappings.{Mapping, Section}
 use Rattle.model.specs.declared.Step.{Step}
 use Rattle.model.specs.declared.Steps.{Steps}
 use Rattle.model.specs.declared.Steps.the-variants.{NoStep, OneStep, TwoSteps}
-use Rattle.model.specs.Ownership.{nat, fromLower, declaredIndex, layoutOf, ownerOf, rank, held, backTo}
+use Rattle.model.specs.Ownership.{nat, fromLower, declaredIndex, owner, rank, held, backTo}
 use Rattle.model.specs.Sections.{count, address, firstPlace}
 use Rattle.model.specs.Steps.{stepsOf, cost, nextPlace}
 use Rattle.model.specs.Filling.{Walk, Request, Outcome, answer}
@@ -27,8 +26,7 @@ pub record OwnershipAnswer : Type 0 where
 unfoldable pub ownership : Mapping → ℤ → OwnershipAnswer
 ownership m j =
     let e = firstNo (ofMapping m ++ ofIndex m j) in
-    let o = ownerOf (layoutOf m) in
-    cond (eqb e 0) (record { refusal = 0; processor = o (fromLower m j); address = rank o (fromLower m j) })
+    cond (eqb e 0) (record { refusal = 0; processor = owner m (fromLower m j); address = rank (owner m) (fromLower m j) })
     (record { refusal = e; processor = 0; address = 0 })
 
 pub record GoingBackAnswer : Type 0 where
@@ -39,7 +37,7 @@ pub record GoingBackAnswer : Type 0 where
 unfoldable pub goingBack : Mapping → ℤ → ℤ → GoingBackAnswer
 goingBack m q a =
     let e = firstNo (ofMapping m ++ ofProcessor m q ++ ofAddress m q a) in
-    let i = backTo (ownerOf (layoutOf m)) (nat (m .size)) (nat q) (nat a) in
+    let i = backTo (owner m) (nat (m .size)) (nat q) (nat a) in
     cond (eqb e 0) (record { refusal = 0; index = declaredIndex m i }) (record { refusal = e; index = pos 0 })
 
 pub record LocalCountAnswer : Type 0 where
@@ -50,7 +48,7 @@ pub record LocalCountAnswer : Type 0 where
 unfoldable pub localCount : Mapping → ℤ → LocalCountAnswer
 localCount m q =
     let e = firstNo (ofMapping m ++ ofProcessor m q) in
-    cond (eqb e 0) (record { refusal = 0; elements = held (ownerOf (layoutOf m)) (nat (m .size)) (nat q) })
+    cond (eqb e 0) (record { refusal = 0; elements = held (owner m) (nat (m .size)) (nat q) })
     (record { refusal = e; elements = 0 })
 
 -- ---- section steps

@@ -6,8 +6,8 @@ use mathlib.Core.Bool.{cond, _&&_}
 use mathlib.Core.List.{List, [], _∷_, _++_}
 use lib.Dec.{leb, eqb}
 use lib.ListN.{length, getD, take, drop}
-use Rattle.model.specs.declared.Mapping.{Mapping}
-use Rattle.model.specs.Ownership.{nat, layoutOf, ownerOf}
+use Rattle.model.specs.Mappings.{Mapping}
+use Rattle.model.specs.Ownership.{nat, owner}
 use Rattle.model.specs.Questions.{Question, ask, firstNo, ofMapping, Passes}
 use Rattle.model.specs.Storages.{storagePlace, OneToOne, copied}
 
@@ -47,7 +47,7 @@ copying c =
 
 -- the place of element i in the storage
 abbrev pub placeOf : Mapping → ℕ → ℕ
-placeOf m = storagePlace (ownerOf (layoutOf m)) (wordsIn m)
+placeOf m = storagePlace (owner m) (wordsIn m)
 
 -- the place of element i in index order
 abbrev pub inOrder : ℕ → ℕ

@@ -7,9 +7,8 @@ use mathlib.Core.Bool.{Bool, true, false}
 use mathlib.Core.List.{List, [], _∷_, _++_, map}
 use lib.IntN.{ℤ, pos}
 use lib.ListN.{length, getD, take, drop}
-use Rattle.model.specs.declared.Mapping.{Mapping}
-use Rattle.model.specs.declared.Section.{Section}
-use Rattle.model.specs.Ownership.{nat, fromLower, declaredIndex, layoutOf, ownerOf, rank, held, backTo}
+use Rattle.model.specs.Mappings.{Mapping, Section}
+use Rattle.model.specs.Ownership.{nat, fromLower, declaredIndex, owner, rank, held, backTo}
 use Rattle.model.specs.Sections.{count, address, firstPlace}
 use Rattle.model.specs.Steps.{stepsOf}
 use Rattle.model.specs.Filling.{Filled, fillBy}
@@ -88,15 +87,15 @@ pub record Decides (s : List ℕ) (b : Bool) : Type 0 where
 pub record Demand1 : Type 0 where
   pub of-ownership : (m : Mapping) (j : ℤ)
       → Answers (ownership m j) (λ a. a .refusal) (ofMapping m ++ ofIndex m j)
-      (λ a. (a .processor ≡ ownerOf (layoutOf m) (fromLower m j)) × (a .address ≡ rank (ownerOf (layoutOf m)) (fromLower m j)))
+      (λ a. (a .processor ≡ owner m (fromLower m j)) × (a .address ≡ rank (owner m) (fromLower m j)))
       (λ a. Zeros (a .processor ∷ a .address ∷ []))
   pub of-going-back : (m : Mapping) (q x : ℤ)
       → Answers (goingBack m q x) (λ a. a .refusal) (ofMapping m ++ ofProcessor m q ++ ofAddress m q x)
-      (λ a. a .index ≡ declaredIndex m (backTo (ownerOf (layoutOf m)) (nat (m .size)) (nat q) (nat x)))
+      (λ a. a .index ≡ declaredIndex m (backTo (owner m) (nat (m .size)) (nat q) (nat x)))
       (λ a. a .index ≡ pos 0)
   pub of-local-count : (m : Mapping) (q : ℤ)
       → Answers (localCount m q) (λ a. a .refusal) (ofMapping m ++ ofProcessor m q)
-      (λ a. a .elements ≡ held (ownerOf (layoutOf m)) (nat (m .size)) (nat q))
+      (λ a. a .elements ≡ held (owner m) (nat (m .size)) (nat q))
       (λ a. Zeros (a .elements ∷ []))
   pub of-section-steps : (x : Section)
       → Answers (sectionSteps x) (λ a. a .refusal) (ofSection x) (λ a. a ≡ stepsReport (count x) (stepsOf x)) NoSteps

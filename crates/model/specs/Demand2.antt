@@ -1,15 +1,15 @@
 -- Demand 2 as a statement, a field for each sentence. The part about addresses is over any owner of indices.
-use Prim.Native.Nat.{ℕ, _+_, _*_, _/_, _%_, _<_}
+use Prim.Native.Nat.{ℕ, _+_, _*_, _/_, _%_, _≤_, _<_}
 use mathlib.Core.Path.{_≡_}
 use mathlib.Core.Logic.{_↔_}
 use mathlib.Core.Bool.{Bool, true}
+use mathlib.Core.List.{List}
 use lib.IntN.{ℤ, pos, negsuc, _+ℤ_, _-ℤ_, _*ℤ_}
-use lib.ListN.{length}
+use lib.ListN.{length, getD}
 use lib.Signed.{leZ}
-use Rattle.model.specs.declared.Mapping.{Mapping}
+use Rattle.model.specs.Mappings.{Dealing, cyclic, genBlock, Mapping, Section}
 use Rattle.model.specs.declared.Triplet.{Triplet}
-use Rattle.model.specs.declared.Section.{Section}
-use Rattle.model.specs.Ownership.{fromLower, declaredIndex, layoutOf, ownerOf, rank, elementsOf, held, backTo}
+use Rattle.model.specs.Ownership.{nat, fromLower, declaredIndex, layoutOf, runStart, runSizes, owner, rank, elementsOf, held, backTo}
 use Rattle.model.specs.Sections.{layout, countOf, elementAt}
 use Rattle.model.specs.Questions.{isIndex}
 
@@ -45,14 +45,22 @@ notPast (negsuc s) h z = leZ h z
 pub record Fortran95 (x : Triplet) : Type 0 where
   pub elements : (t : ℕ) → (t < countOf x) ↔ (notPast (x .stride) (x .upper) (elementAt x t) ≡ true)
 
+-- HPF 2.0's owner q of cell c, of p processors: floor(c / k) mod p; or, of GEN_BLOCK, the processor whose run, "from the sum of
+-- the sizes before it to that sum plus its own size", has the cell
+abbrev pub Hpf2 : Dealing → ℕ → ℕ → ℕ → Type 0
+Hpf2 (cyclic k) p c q = q ≡ c / nat k % p
+Hpf2 (genBlock sizes left) p c q =
+    let runs : List ℕ = runSizes sizes in
+    (q < p) × (runStart runs q ≤ c) × (c < runStart runs q + getD runs q 0)
+
 -- the element of declared index j
 pub record Element (m : Mapping) (j : ℤ) : Type 0 where
   pub cell : ℕ
   -- "declared index j sits on declared cell a·j + b", which is cell a·j + b − Lt of the template
   pub sits : pos cell ≡ m .stride *ℤ j +ℤ m .offset -ℤ m .origin
   pub below : cell < layoutOf m .cells
-  -- "the owner of an element is HPF 2.0's": floor((a·j + b − Lt) / k) mod p
-  pub owner : ownerOf (layoutOf m) (fromLower m j) ≡ cell / layoutOf m .block % layoutOf m .processors
+  -- "the owner of an element is HPF 2.0's"
+  pub owned : Hpf2 (m .dealing) (layoutOf m .processors) cell (owner m (fromLower m j))
   -- of the n indices it is one, La the first of them
   pub index : fromLower m j < layoutOf m .size
   pub back : declaredIndex m (fromLower m j) ≡ j
@@ -61,5 +69,5 @@ pub record Element (m : Mapping) (j : ℤ) : Type 0 where
 pub record Demand2 (x : Section) : Type 0 where
   pub element : (j : ℤ) → isIndex (x .mapping) j ≡ true → Element (x .mapping) j
   pub each-declared : (i : ℕ) → i < layout x .size → isIndex (x .mapping) (declaredIndex (x .mapping) i) ≡ true
-  pub addresses : Addressed (ownerOf (layout x)) (layout x .processors) (layout x .size)
+  pub addresses : Addressed (owner (x .mapping)) (layout x .processors) (layout x .size)
   pub section : Fortran95 (x .triplet)

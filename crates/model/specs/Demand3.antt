@@ -9,10 +9,10 @@ use lib.Dec.{eqb}
 use lib.IntN.{pos}
 use lib.ListN.{length, getD, take, drop}
 use Rattle.numbers.specs.Search.{headOr, sum}
-use Rattle.model.specs.declared.Section.{Section}
+use Rattle.model.specs.Mappings.{Section}
 use Rattle.model.specs.declared.Steps.{Steps}
 use Rattle.model.specs.declared.Steps.the-variants.{NoStep, OneStep, TwoSteps}
-use Rattle.model.specs.Ownership.{declaredIndex, ownerOf, backTo}
+use Rattle.model.specs.Ownership.{declaredIndex, owner, backTo}
 use Rattle.model.specs.Sections.{elementAt, layout, count, cell, places, firstPlace}
 use Rattle.model.specs.Steps.{cost, stepsOf}
 use Rattle.model.specs.Filling.{Walk, Request, Outcome, answer, got, reported, paid, standing, allowed}
@@ -114,7 +114,7 @@ Reached f x runs =
 pub record StandsFor (x : Section) (lists : ℕ → List ℕ) (t q j : ℕ) : Type 0 where
   pub processor : q < layout x .processors
   pub entry : j < length (lists q)
-  pub element : declaredIndex (x .mapping) (backTo (ownerOf (layout x)) (layout x .size) q (getD (lists q) j 0)) ≡ elementAt (x .triplet) t
+  pub element : declaredIndex (x .mapping) (backTo (owner (x .mapping)) (layout x .size) q (getD (lists q) j 0)) ≡ elementAt (x .triplet) t
 
 -- the element at position t stands in exactly one list, exactly once
 pub record InOneList (x : Section) (lists : ℕ → List ℕ) (t : ℕ) : Type 0 where
@@ -149,7 +149,7 @@ pub record Demand3 (f : Form) (x : Section) : Type 0 where
       → (c : f .Call) → Agrees x q (placeAfter f x q cs) (f .words c) → between (pos 3) (pos 1000000) (f .words c .quota) ≡ true
       → f .outcome c .refusal ≡ 0
   pub reaches : (runs : ℕ → List (f .Call)) × Reached f x runs
-  pub no-gap : (q : ℕ) → NoGap (ownerOf (layout x)) (layout x .size) q
+  pub no-gap : (q : ℕ) → NoGap (owner (x .mapping)) (layout x .size) q
   -- neighbours in a processor's list lie a step apart
   pub neighbours :
       (q j : ℕ) → suc j < length (places x q)

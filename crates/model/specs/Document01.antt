@@ -1,5 +1,5 @@
 -- Document 01's own answers, in which elements count from 0 and element i sits on cell a·i + b, and the law of A1 about them:
--- with both bounds 0 and b of 0 or more, every answer is document 01's. Definitions, and that statement.
+-- of a cyclic template with both bounds 0 and b of 0 or more, every answer is document 01's. Definitions, and that statement.
 use Prim.Native.Nat.{ℕ, _+_, _-_, _*_, _/_}
 use mathlib.Core.Path.{_≡_}
 use mathlib.Core.Bool.{Bool, true, cond, _&&_, _||_}
@@ -9,12 +9,11 @@ use lib.IntN.{ℤ, pos, natAbs, _+ℤ_, _-ℤ_, _*ℤ_}
 use lib.ListN.{length}
 use lib.Signed.{leZ, ltZ, nonNeg}
 use Rattle.numbers.specs.Search.{passing, headOr}
-use Rattle.model.specs.declared.Mapping.{Mapping}
+use Rattle.model.specs.Mappings.{cyclic, Mapping, Section}
 use Rattle.model.specs.declared.Layout.{Layout}
-use Rattle.model.specs.declared.Section.{Section}
 use Rattle.model.specs.declared.Steps.{Steps}
 use Rattle.model.specs.declared.Steps.the-variants.{NoStep, OneStep, TwoSteps}
-use Rattle.model.specs.Ownership.{nat, cellOf, courseCells, columnOf, ownerOf, owns, rank, held, backTo}
+use Rattle.model.specs.Ownership.{nat, blockIn, cellOf, courseCells, columnOf, ownerOf, owns, rank, held, backTo}
 use Rattle.model.specs.Sections.{elementAt, count}
 use Rattle.model.specs.Steps.{Going, stepsBy, goOn, isPast}
 use Rattle.model.specs.Filling.{Walk, Outcome, answer}
@@ -79,7 +78,7 @@ abbrev pub plainLayout : Mapping → Layout
 plainLayout m = record {
   cells = nat (m .cells);
   processors = nat (m .processors);
-  block = nat (m .block);
+  block = nat (blockIn (m .dealing));
   stride = nat (m .stride);
   offset = nat (m .offset);
   size = nat (m .size);
@@ -103,7 +102,7 @@ abbrev pub plainMapping : Mapping → List Question
 plainMapping m =
     ask 1 (between (pos 1) most (m .cells))
     ∷ ask 2 (between (pos 1) (pos 1024) (m .processors))
-    ∷ ask 3 (between (pos 1) (pos 65536) (m .block))
+    ∷ ask 3 (between (pos 1) (pos 65536) (blockIn (m .dealing)))
     ∷ ask 4 (between (pos 1) most (m .stride) && between (pos 0) most (m .offset))
     ∷ ask 5 (between (pos 0) most (m .size) && plainCells m)
     ∷ []
@@ -191,8 +190,10 @@ plainListsAfter c =
 
 -- ---- the law
 
--- no bounds, as document 01 has it: its question 4 turns a negative offset away, which A1 lets pass
+-- a cyclic template and no bounds, as document 01 has it: its question 4 turns a negative offset away, which A1 lets pass
 pub record Plain (m : Mapping) : Type 0 where
+  pub block : ℤ
+  pub dealing : m .dealing ≡ cyclic block
   pub lower : m .lower ≡ pos 0
   pub origin : m .origin ≡ pos 0
   pub offset : leZ (pos 0) (m .offset) ≡ true

@@ -1,4 +1,5 @@
 -- Document 01 as definitions, in its order, and its demands as statements.
+pub mod Mappings
 pub mod Ownership
 pub mod Sections
 pub mod Steps
@@ -17,4 +18,5 @@ pub mod Demand3
 pub mod Document01
 pub mod Shifted
 pub mod Starred
+pub mod GenBlockRows
 pub mod Promises

@@ -5,12 +5,11 @@ use mathlib.Core.Path.{_≡_}
 use lib.Dec.{T}
 use lib.IntN.{ℤ, pos}
 use lib.ListN.{drop}
-use Rattle.model.specs.declared.Mapping.{Mapping}
-use Rattle.model.specs.declared.Section.{Section}
+use Rattle.model.specs.Mappings.{Mapping, Section}
 use Rattle.model.specs.declared.Steps.{Steps}
 use Rattle.model.specs.declared.Steps.the-variants.{NoStep, OneStep, TwoSteps}
 use Rattle.model.specs.Ownership.{nat}
-use Rattle.model.specs.Sections.{layout}
+use Rattle.model.specs.Sections.{layout, count}
 use Rattle.model.specs.Steps.{spread, stepsOf}
 use Rattle.model.specs.Questions.{firstNo, ofSection}
 use Rattle.model.specs.Calls.{ownership, goingBack}
@@ -23,6 +22,7 @@ use Rattle.model.specs.Demand3.{inWordLists, inByteLists, Demand3}
 use Rattle.model.specs.Document01.{AsDocument01}
 use Rattle.model.specs.Shifted.{Shifted}
 use Rattle.model.specs.Starred.{every, table}
+use Rattle.model.specs.GenBlockRows.{genBlockRows}
 
 -- "a section is accepted if every question that concerns its mapping and itself is answered yes"
 abbrev pub Accepts : Section → Type 0
@@ -57,9 +57,10 @@ pub record Promises : Type 0 where
   -- "up to 3 bytes left over are no entry and stay", and so do the bytes after the entries written
   pub bytes-stay :
       (c : ByteFill) (m : ℕ) → 4 * outcomeOf c .filled .entries ≤ m → drop m (bytesAfter c) ≡ drop m (c .bytes)
-  -- all pairs of an assignment
-  pub assignment : (left right : Section) → Accepts left → Accepts right → Assigned left right
+  -- all pairs of an assignment of sections with equal counts, as question 12 asks
+  pub assignment : (left right : Section) → Accepts left → Accepts right → count left ≡ count right → Assigned left right
   -- save and load
   pub checkpoints : Checkpoints
-  -- the starred cases
+  -- the starred cases, and those of our own for GEN_BLOCK
   pub starred : T (every table)
+  pub gen-block : T (every genBlockRows)

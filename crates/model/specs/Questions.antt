@@ -1,15 +1,17 @@
--- Document 01, "Questions, in order": 1 to 11, and document 02's 15 between the halves of 5. Definitions only.
+-- Document 01, "Questions, in order": 1 to 11, and document 02's 15 between the halves of 5, and 16 in the place of 3.
+-- Definitions only.
 use Prim.Native.Nat.{ℕ, _-_}
 use mathlib.Core.Path.{_≡_}
 use mathlib.Core.Bool.{Bool, true, not, cond, _&&_, _||_}
 use mathlib.Core.List.{List, [], _∷_, _++_}
-use lib.Dec.{ltb, eqb}
+use lib.Dec.{leb, ltb, eqb}
 use lib.IntN.{ℤ, pos, negsuc, natAbs}
+use lib.ListN.{length}
 use lib.Signed.{leZ, ltZ}
-use Rattle.model.specs.declared.Mapping.{Mapping}
+use Rattle.numbers.specs.Search.{sum}
+use Rattle.model.specs.Mappings.{Dealing, cyclic, genBlock, Mapping, Section}
 use Rattle.model.specs.declared.Triplet.{Triplet}
-use Rattle.model.specs.declared.Section.{Section}
-use Rattle.model.specs.Ownership.{nat, cellUnder, lastIndex, lastCell, layoutOf, ownerOf, held}
+use Rattle.model.specs.Ownership.{nat, cellUnder, lastIndex, lastCell, runSizes, owner, held}
 use Rattle.model.specs.Sections.{elementAt, count, ownsAt}
 
 pub record Question : Type 0 where
@@ -43,6 +45,26 @@ most = pos 2147483647
 abbrev pub least : ℤ
 least = negsuc 2147483646
 
+-- 3, of a cyclic template's block; "3 does not concern" a GEN_BLOCK template
+abbrev pub blockFits : Dealing → Bool
+blockFits (cyclic k) = between (pos 1) (pos 65536) k
+blockFits (genBlock sizes left) = true
+
+-- is each size 0 or more?
+abbrev pub eachNatural : List ℤ → Bool
+eachNatural [] = true
+eachNatural (z ∷ zs) = leZ (pos 0) z && eachNatural zs
+
+-- is the list p entries long, each 0 or more, with a sum of at least T? "Bytes left over make it one of another length"
+unfoldable pub sizesFit : ℤ → ℤ → List ℤ → ℕ → Bool
+sizesFit cells processors sizes left =
+    eqb (length sizes) (nat processors) && eqb left 0 && eachNatural sizes && leb (nat cells) (sum (runSizes sizes))
+
+-- 16, of a GEN_BLOCK template's list; it "does not concern a cyclic one"
+abbrev pub runsFit : ℤ → ℤ → Dealing → Bool
+runsFit cells processors (cyclic k) = true
+runsFit cells processors (genBlock sizes left) = sizesFit cells processors sizes left
+
 -- 15: are the lower bounds, the template's last declared cell and, if n is at least 1, the array's last declared index in
 -- range?
 unfoldable pub boundsFit : Mapping → Bool
@@ -59,7 +81,8 @@ abbrev pub ofMapping : Mapping → List Question
 ofMapping m =
     ask 1 (between (pos 1) most (m .cells))
     ∷ ask 2 (between (pos 1) (pos 1024) (m .processors))
-    ∷ ask 3 (between (pos 1) (pos 65536) (m .block))
+    ∷ ask 3 (blockFits (m .dealing))
+    ∷ ask 16 (runsFit (m .cells) (m .processors) (m .dealing))
     ∷ ask 4 (between (pos 1) most (m .stride) && between least most (m .offset))
     ∷ ask 5 (between (pos 0) most (m .size))
     ∷ ask 15 (boundsFit m)
@@ -99,7 +122,7 @@ abbrev pub ofIndex : Mapping → ℤ → List Question
 ofIndex m i = ask 9 (isIndex m i) ∷ []
 
 abbrev pub ofAddress : Mapping → ℤ → ℤ → List Question
-ofAddress m q a = ask 9 (isBelow (pos (held (ownerOf (layoutOf m)) (nat (m .size)) (nat q))) a) ∷ []
+ofAddress m q a = ask 9 (isBelow (pos (held (owner m) (nat (m .size)) (nat q))) a) ∷ []
 
 -- 10: is the place the count, or a position whose element the processor owns?
 unfoldable pub isPlace : Section → ℤ → ℤ → Bool

@@ -7,8 +7,8 @@ use lib.Signed.{quotZ}
 use Rattle.numbers.specs.Search.{passing, headOr}
 use Rattle.model.specs.declared.Triplet.{Triplet}
 use Rattle.model.specs.declared.Layout.{Layout}
-use Rattle.model.specs.declared.Section.{Section}
-use Rattle.model.specs.Ownership.{nat, fromLower, layoutOf, cellOf, ownerOf, owns, rank}
+use Rattle.model.specs.Mappings.{Section}
+use Rattle.model.specs.Ownership.{nat, fromLower, layoutOf, cellOf, owner, owns, rank}
 
 -- "count": max(0, (h − l + s) / s truncated towards zero)
 unfoldable pub countOf : Triplet → ℕ
@@ -34,11 +34,11 @@ unfoldable pub cell : Section → ℕ → ℕ
 cell x t = cellOf (layout x) (index x t)
 
 unfoldable pub address : Section → ℕ → ℕ
-address x t = rank (ownerOf (layout x)) (index x t)
+address x t = rank (owner (x .mapping)) (index x t)
 
 -- does processor q own the element at position t?
 unfoldable pub ownsAt : Section → ℕ → ℕ → Bool
-ownsAt x q t = owns (ownerOf (layout x)) q (index x t)
+ownsAt x q t = owns (owner (x .mapping)) q (index x t)
 
 -- "a processor's list": the section's elements that it owns, in rising position
 unfoldable pub places : Section → ℕ → List ℕ

@@ -8,7 +8,7 @@ use lib.Dec.{ltb}
 use lib.IntN.{ℤ, pos, negsuc, natAbs}
 use lib.ListN.{length, getD, take}
 use Rattle.model.specs.declared.Triplet.{Triplet}
-use Rattle.model.specs.declared.Section.{Section}
+use Rattle.model.specs.Mappings.{cyclic, Section}
 
 -- ---- what a sheet holds
 
@@ -154,7 +154,7 @@ sectionBy t a x =
       mapping = record {
         cells = t .cells;
         processors = t .processors;
-        block = t .block;
+        dealing = cyclic (t .block);
         stride = a .stride;
         offset = a .offset;
         size = a .size;

@@ -5,8 +5,7 @@ use mathlib.Core.Path.{_≡_}
 use mathlib.Core.Bool.{true, cond}
 use lib.Dec.{eqb}
 use lib.IntN.{ℤ, pos, _+ℤ_, _-ℤ_}
-use Rattle.model.specs.declared.Mapping.{Mapping}
-use Rattle.model.specs.declared.Section.{Section}
+use Rattle.model.specs.Mappings.{Mapping, Section}
 use Rattle.model.specs.Ownership.{cellUnder, layoutOf}
 use Rattle.model.specs.Questions.{inRange, Passes}
 use Rattle.model.specs.Calls.{ownership, GoingBackAnswer, goingBack, localCount, sectionSteps, firstPlaceAt, FillCall, fill}
@@ -19,7 +18,7 @@ abbrev pub fromZero : Mapping → Mapping
 fromZero m = record {
   cells = m .cells;
   processors = m .processors;
-  block = m .block;
+  dealing = m .dealing;
   stride = m .stride;
   offset = cellUnder m (m .lower);
   size = m .size;

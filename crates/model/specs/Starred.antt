@@ -7,16 +7,17 @@ use lib.IntN.{ℤ, pos, negsuc}
 use lib.Signed.{leZ}
 use lib.ListN.{replicate}
 use Rattle.numbers.specs.Search.{passing}
-use Rattle.model.specs.declared.Mapping.{Mapping}
-use Rattle.model.specs.declared.Section.{Section}
+use Rattle.model.specs.Mappings.{cyclic, Mapping, Section, mappingWith}
+use Rattle.model.specs.declared.Mapping as mappings
 use Rattle.model.specs.declared.Step.{Step}
 use Rattle.model.specs.declared.Steps.{Steps}
 use Rattle.model.specs.declared.Steps.the-variants.{NoStep, OneStep, TwoSteps}
+use Rattle.model.specs.Ownership.{layoutOf, cellOwnerBy, courseBy, columnBy}
 use Rattle.model.specs.Sections.{elementAt, count, firstPlace}
 use Rattle.model.specs.Steps.{stepsOf}
 use Rattle.model.specs.Filling.{got, paid, standing}
 use Rattle.model.specs.Questions.{firstNo, ofMapping, ofSection}
-use Rattle.model.specs.Calls.{ownership, goingBack, FillCall, fill, StepReport, SectionStepsAnswer, sectionSteps}
+use Rattle.model.specs.Calls.{ownership, goingBack, localCount, FillCall, fill, StepReport, SectionStepsAnswer, sectionSteps}
 use Rattle.model.specs.Transfers.{listsAfter}
 use Rattle.model.specs.Checkpoints.{copyOf, copying, saved, loaded}
 
@@ -51,11 +52,15 @@ sameSteps (TwoSteps a c) (TwoSteps b d) = sameStep a b && sameStep c d
 -- ---- rows
 
 pub data Row : Type 0 where
-  -- a mapping has this refusal
+  -- a mapping has this refusal; and one as a call passes it, with its sizes as bytes
   mapping : Mapping → ℕ → Row
+  passed : mappings.Mapping → List ℕ → ℕ → Row
   -- the element of a declared index has this refusal, processor and address; and going back this refusal and declared index
   owned : Mapping → ℤ → ℕ → ℕ → ℕ → Row
   found : Mapping → ℕ → ℕ → ℕ → ℤ → Row
+  -- a processor's local count has this refusal and this number; a cell has this owner, course and column
+  counted : Mapping → ℕ → ℕ → ℕ → Row
+  dealt : Mapping → ℕ → ℕ → ℕ → ℕ → Row
   -- a section has this refusal and these elements, by their declared indices
   elements : Section → ℕ → List ℤ → Row
   -- a section has these steps
@@ -88,12 +93,20 @@ runFrom x q t (z ∷ zs) =
 
 abbrev pub holds : Row → Bool
 holds (mapping m e) = eqb (firstNo (ofMapping m)) e
+holds (passed m bytes e) = eqb (firstNo (ofMapping (mappingWith m bytes))) e
 holds (owned m j e q a) =
     let r = ownership m j in
     sameList (r .refusal ∷ r .processor ∷ r .address ∷ []) (e ∷ q ∷ a ∷ [])
 holds (found m q a e j) =
     let r = goingBack m (pos q) (pos a) in
     sameNumbers (pos (r .refusal) ∷ r .index ∷ []) (pos e ∷ j ∷ [])
+holds (counted m q e n) =
+    let r = localCount m (pos q) in
+    sameList (r .refusal ∷ r .elements ∷ []) (e ∷ n ∷ [])
+holds (dealt m c q y z) =
+    let d = m .dealing in
+    let l = layoutOf m in
+    sameList (cellOwnerBy d l c ∷ courseBy d l c ∷ columnBy d l c ∷ []) (q ∷ y ∷ z ∷ [])
 holds (elements x e js) =
     eqb (firstNo (ofSection x)) e && sameNumbers (map (elementAt (x .triplet)) (passing (λ t. true) 0 (count x))) js
 holds (steps x s) = sameSteps (stepsOf x) s
@@ -125,16 +138,16 @@ every (r ∷ rs) = holds r && every rs
 
 -- ---- the sections of the table
 
-abbrev mapped : ℕ → ℕ → ℕ → ℕ → ℕ → ℕ → Mapping
+abbrev pub mapped : ℕ → ℕ → ℕ → ℕ → ℕ → ℕ → Mapping
 mapped T p k a b n =
-    record { cells = pos T; processors = pos p; block = pos k; stride = pos a; offset = pos b; size = pos n; lower = pos 0; origin = pos 0 }
+    record { cells = pos T; processors = pos p; dealing = cyclic (pos k); stride = pos a; offset = pos b; size = pos n; lower = pos 0; origin = pos 0 }
 
 -- the same with declared bounds
 abbrev bounded : ℕ → ℕ → ℕ → ℕ → ℤ → ℕ → ℤ → ℤ → Mapping
 bounded T p k a b n La Lt =
-    record { cells = pos T; processors = pos p; block = pos k; stride = pos a; offset = b; size = pos n; lower = La; origin = Lt }
+    record { cells = pos T; processors = pos p; dealing = cyclic (pos k); stride = pos a; offset = b; size = pos n; lower = La; origin = Lt }
 
-abbrev on : Mapping → ℤ → ℤ → ℤ → Section
+abbrev pub on : Mapping → ℤ → ℤ → ℤ → Section
 on m l h s = record { mapping = m; triplet = record { lower = l; upper = h; stride = s } }
 
 -- 0:95:7 and 91:0:-7 on T 96, p 3, k 4
@@ -179,7 +192,7 @@ ofSize n l h s = on (mapped 12 3 2 1 0 n) l h s
 abbrev lone : Section
 lone = ofSize 8 (pos 3) (pos 3) (pos 1)
 
-abbrev step : ℕ → ℕ → ℕ → Step
+abbrev pub step : ℕ → ℕ → ℕ → Step
 step x c y = record { cells = x; courses = c; column = y }
 
 unfoldable pub table : List Row

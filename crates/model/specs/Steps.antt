@@ -1,17 +1,18 @@
--- Document 01, "Steps of a section". M stands for pk, the cells of a course, and S for a·|s|. Definitions only.
-use Prim.Native.Nat.{ℕ, _+_, _-_, _*_, _/_, _%_}
+-- Document 01, "Steps of a section", and the one step of document 02, A5. M stands for pk, the cells of a course, and S for
+-- a·|s|. Definitions only.
+use Prim.Native.Nat.{ℕ, suc, _+_, _-_, _*_, _/_, _%_}
 use mathlib.Core.Bool.{Bool, true, false, not, cond, _&&_}
-use lib.Dec.{leb, ltb}
+use lib.Dec.{leb, ltb, eqb}
 use lib.IntN.{natAbs}
 use lib.Signed.{nonNeg}
 use Rattle.numbers.specs.Search.{passing, headOr}
 use Rattle.numbers.specs.Gcd.{gcd}
-use Rattle.model.specs.declared.Section.{Section}
+use Rattle.model.specs.Mappings.{Dealing, cyclic, genBlock, Section}
 use Rattle.model.specs.declared.Step.{Step}
 use Rattle.model.specs.declared.Steps.{Steps}
 use Rattle.model.specs.declared.Steps.the-variants.{NoStep, OneStep, TwoSteps}
-use Rattle.model.specs.Ownership.{courseCells, columnOf}
-use Rattle.model.specs.Sections.{layout, count, cell}
+use Rattle.model.specs.Ownership.{courseCells, columnOf, owner}
+use Rattle.model.specs.Sections.{layout, count, index, cell}
 
 -- is y from 1 to k − 1?
 abbrev pub isMove : ℕ → ℕ → Bool
@@ -80,19 +81,17 @@ goOn up k q (TwoSteps r w) = tryBoth up k q r w
 unfoldable pub spread : Section → ℕ
 spread x = layout x .stride * natAbs (x .triplet .stride)
 
-unfoldable pub stepsOf : Section → Steps
-stepsOf x = stepsBy (count x) (courseCells (layout x)) (layout x .block) (spread x)
-
 -- walking direction: is s positive?
 unfoldable pub upward : Section → Bool
 upward x = nonNeg (x .triplet .stride)
 
-unfoldable pub going : Section → ℕ → Going
-going x t = goOn (upward x) (layout x .block) (columnOf (layout x) (cell x t)) (stepsOf x)
+-- ---- the cyclic dealing
 
--- "an element's cost": the tries of going on from its column
-unfoldable pub cost : Section → ℕ → ℕ
-cost x t = going x t .tries
+unfoldable pub cyclicSteps : Section → Steps
+cyclicSteps x = stepsBy (count x) (courseCells (layout x)) (layout x .block) (spread x)
+
+unfoldable pub cyclicGoing : Section → ℕ → Going
+cyclicGoing x t = goOn (upward x) (layout x .block) (columnOf (layout x) (cell x t)) (cyclicSteps x)
 
 -- n cells on from cell c: is that past cell z, in walking direction?
 abbrev pub isPast : Bool → ℕ → ℕ → ℕ → Bool
@@ -105,5 +104,40 @@ nextBy x t n NoStep = count x
 nextBy x t n (OneStep m) = cond (isPast (upward x) (cell x t) n (cell x (count x - 1))) (count x) (t + n / spread x)
 nextBy x t n (TwoSteps r w) = cond (isPast (upward x) (cell x t) n (cell x (count x - 1))) (count x) (t + n / spread x)
 
+unfoldable pub cyclicNext : Section → ℕ → ℕ
+cyclicNext x t = nextBy x t (cyclicGoing x t .cells) (cyclicSteps x)
+
+-- ---- GEN_BLOCK
+
+-- "each step is one section stride, reported as S cells, 0 courses and column move S"
+unfoldable pub runSteps : ℕ → ℕ → Steps
+runSteps n S = cond (ltb n 2) NoStep (OneStep (record { cells = S; courses = 0; column = S }))
+
+-- the next place of n, by the owner at each: the next position if it has the same owner; "after the processor's last element
+-- the place is the count"
+unfoldable pub runNext : (ℕ → ℕ) → ℕ → ℕ → ℕ
+runNext at n t = cond (ltb (suc t) n && eqb (at (suc t)) (at t)) (suc t) n
+
+-- ---- by the dealing
+
+abbrev pub stepsDealt : Dealing → Section → Steps
+stepsDealt (cyclic k) x = cyclicSteps x
+stepsDealt (genBlock sizes left) x = runSteps (count x) (spread x)
+
+unfoldable pub stepsOf : Section → Steps
+stepsOf x = stepsDealt (x .mapping .dealing) x
+
+-- "an element's cost": the tries of going on from its column; along a run 1 try
+abbrev pub costDealt : Dealing → Section → ℕ → ℕ
+costDealt (cyclic k) x t = cyclicGoing x t .tries
+costDealt (genBlock sizes left) x t = 1
+
+unfoldable pub cost : Section → ℕ → ℕ
+cost x t = costDealt (x .mapping .dealing) x t
+
+abbrev pub nextDealt : Dealing → Section → ℕ → ℕ
+nextDealt (cyclic k) x t = cyclicNext x t
+nextDealt (genBlock sizes left) x t = runNext (λ u. owner (x .mapping) (index x u)) (count x) t
+
 unfoldable pub nextPlace : Section → ℕ → ℕ
-nextPlace x t = nextBy x t (going x t .cells) (stepsOf x)
+nextPlace x t = nextDealt (x .mapping .dealing) x t

@@ -8,7 +8,7 @@ use lib.Dec.{leb, eqb}
 use lib.IntN.{ℤ}
 use lib.ListN.{length, getD, drop}
 use Rattle.numbers.specs.Search.{passing, sumBelow}
-use Rattle.model.specs.declared.Section.{Section}
+use Rattle.model.specs.Mappings.{Section}
 use Rattle.model.specs.Ownership.{nat}
 use Rattle.model.specs.Sections.{layout, count, address, ownsAt}
 use Rattle.model.specs.Questions.{Question, ask, firstNo, ofSection, ofProcessor}

@@ -15,12 +15,20 @@ pub struct Position(pub u64);
 // An element's index as the program declares it, from the array's lower bound on.
 pub struct Declared(pub i64);
 
-// A mapping as a caller passes it: T, p, k, a, b and n of document 01, and the lower bounds that
-// the program declares, the array's (La) and the template's (Lt).
+// How a template's cells are dealt to processors: in turn, in blocks of k; or GEN_BLOCK, each
+// processor one run of cells. The list of the runs' sizes stands beside a mapping, as bytes: an
+// enum holds no list.
+pub enum Dealing {
+    Cyclic(i64),
+    GenBlock,
+}
+
+// A mapping as a caller passes it: T, p, the dealing, a, b and n of document 01, and the lower
+// bounds that the program declares, the array's (La) and the template's (Lt).
 pub struct Mapping {
     pub cells: i64,
     pub processors: i64,
-    pub block: i64,
+    pub dealing: Dealing,
     pub stride: i64,
     pub offset: i64,
     pub size: i64,
@@ -29,7 +37,8 @@ pub struct Mapping {
 }
 
 // A mapping that passed its questions, as natural numbers: elements count from 0, and the
-// offset is the first one's cell.
+// offset is the first one's cell. A GEN_BLOCK template has no block: 1 stands in its place, and
+// nothing looks at it.
 pub struct Layout {
     pub cells: u64,
     pub processors: u64,

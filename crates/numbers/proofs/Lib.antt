@@ -9,3 +9,4 @@ pub mod HitLaws
 pub mod Tests
 pub mod Signed
 pub mod WordLaws
+pub mod MultipleLaws

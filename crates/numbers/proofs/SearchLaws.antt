@@ -2,7 +2,7 @@
 use Prim.Native.Nat.{ℕ, zero, suc, _+_, _≤_, _<_}
 use mathlib.Core.Path.{_≡_, refl, sym, ap, _∙_}
 use mathlib.Core.Bool.{Bool, true, false, cond, true≢false}
-use mathlib.Core.List.{List, [], _∷_, _++_, map}
+use mathlib.Core.List.{List, [], _∷_, _++_}
 use mathlib.Core.Logic.{_⊎_, inl, inr}
 use native.Mathlib.Nat.{
   add-zero,
@@ -232,15 +232,6 @@ module _ (f g : ℕ → Bool) where
       go : f a ≡ g a → passing f (suc a) n ≡ passing g (suc a) n → (b : Bool) → f a ≡ b → passing f a (suc n) ≡ passing g a (suc n)
       go e ih true p = passing-yes f a n p ∙ ap (λ (l : List ℕ). a ∷ l) ih ∙ sym (passing-yes g a n (sym e ∙ p))
       go e ih false p = passing-no f a n p ∙ ih ∙ sym (passing-no g a n (sym e ∙ p))
-
--- ---- functions that agree on the range
-pub map-passing : (f : ℕ → Bool) (g h : ℕ → ℕ) (n a : ℕ) → ((i : ℕ) → a ≤ i → i < a + n → g i ≡ h i) → map g (passing f a n) ≡ map h (passing f a n)
-map-passing f g h zero a same = rw (passing-none f a)
-map-passing f g h (suc n) a same = go (same a (le-refl a) (omega arith)) (map-passing f g h n (suc a) (λ i l k. same i (omega arith) (omega arith))) (f a) refl
-  where
-    go : g a ≡ h a → map g (passing f (suc a) n) ≡ map h (passing f (suc a) n) → (b : Bool) → f a ≡ b → map g (passing f a (suc n)) ≡ map h (passing f a (suc n))
-    go e ih true p = rw (passing-yes f a n p) (λ i. e i ∷ ih i)
-    go e ih false p = rw (passing-no f a n p) ih
 
 -- ---- sums
 pub sum-append : (l k : List ℕ) → sum (l ++ k) ≡ sum l + sum k

@@ -4,3 +4,4 @@ pub mod Gcd
 pub mod FloorSum
 pub mod FirstHit
 pub mod Words
+pub mod Multiples

@@ -1,11 +1,14 @@
-// Arithmetic that knows nothing of arrays: three recursions in the manner of Euclid.
-// Each equals a plain definition of specs/, and each takes a number of calls that is
-// logarithmic in its modulus.
+// Arithmetic that knows nothing of arrays: three recursions in the manner of Euclid, each of
+// which takes a number of calls that is logarithmic in its modulus; multiples below a number;
+// and in words.rt words of bytes. Each equals a plain definition of specs/.
 ghost use mathlib.Core.Path.{_≡_};
-ghost use Prim.Native.Nat.{_+_, _*_, _/_};
+ghost use Prim.Native.Nat.{_+_, _*_, _/_, _<_, _^_};
 ghost use Rattle.numbers.specs.Gcd.{gcd};
 ghost use Rattle.numbers.specs.FloorSum.{floorSum, tri, SumFits};
 ghost use Rattle.numbers.specs.FirstHit.{firstHit, Window};
+ghost use Rattle.numbers.specs.Multiples.{multiplesBelow};
+
+pub mod words;
 
 // The greatest common divisor.
 pub fn gcd(a: u64, b: u64) -> u64
@@ -63,4 +66,16 @@ pub fn first_hit(s: u64, m: u64, lo: u64, hi: u64) -> Hit
         Hit::At(y) => Hit::At((y * m + hi) / s),
         Hit::Nothing => Hit::Nothing,
     }
+}
+
+// How many of the first n multiples of s, from 0 on, are below d.
+pub fn multiples_below(s: u64, n: u64, d: u64) -> u64
+    requires { ⌜ (0 < s) × (d + s < 2 ^ 64) ⌝ }
+    ensures { λ r. ⌜ r ≡ multiplesBelow s n d ⌝ }
+{
+    let m = (d + (s - 1)) / s;
+    if m < n {
+        return m;
+    }
+    n
 }

@@ -7,8 +7,8 @@ use native.Mathlib.Nat.{zero-add}
 use native.Mathlib.Omega.{arith}
 use lib.ListN.{length, take, drop, take-append-drop}
 use Rattle.numbers.specs.Search.{tally, sum}
-use Rattle.numbers.proofs.SearchLaws.{tally-none, tally-le, tally-same, passing-length, sum-append}
-use Rattle.model.specs.declared.Section.{Section}
+use Rattle.numbers.proofs.SearchLaws.{tally-none, tally-le, passing-length, sum-append}
+use Rattle.model.specs.Mappings.{Section}
 use Rattle.model.specs.declared.Position.{Position}
 use Rattle.model.specs.Sections.{count, ownsAt, places, firstPlace}
 use Rattle.model.specs.Steps.{cost}
@@ -19,12 +19,14 @@ use Rattle.model.proofs.Fronts.{Front, fronts}
 use Rattle.model.proofs.InTurnLaws.{leads-drop}
 use Rattle.model.proofs.SectionFills.{places-lead}
 use Rattle.model.proofs.NeighbourLaws.{cost-le}
-use Rattle.section.specs.declared.questions.Strided.{Strided}
 use Rattle.section.specs.Strides.{stridedOf, Bounded, ownedAt, placeIn}
-use Rattle.section.proofs.StridedSections.{owned-at, bounded, place-in}
+use Rattle.section.specs.Shares.{placeBy, heldBy}
+use Rattle.section.proofs.StridedSections.{bounded}
+use Rattle.section.proofs.ShareLaws.{place-by, held-by}
 use Rattle.print.specs.declared.fills.Listed.{Listed}
 use Rattle.print.specs.declared.fills.Rest.{Rest}
-use Rattle.print.specs.Ahead.{Owner, ahead, restOf, StandsIn}
+use Rattle.print.specs.Ahead.{listed, Owner, ahead, restOf, StandsIn}
+use Rattle.print.proofs.ListedLaws.{in-blocks}
 
 -- ---- a processor's list
 
@@ -47,22 +49,20 @@ module _ (x : Section) (q : ℕ) where
     pub left-is : r .left ≡ length (restOf x q r)
     left-is = s .left ∙ ap length (sym rest-is)
 
+  -- how many there are
+  places-count : length (places x q) ≡ tally (ownsAt x q) (count x)
+  unfolding places
+  places-count =
+      omega (arith, passing-length (ownsAt x q) (count x) 0, tally-none (ownsAt x q), ap (tally (ownsAt x q)) (zero-add (count x)))
+
   module _ (ok : firstNo (ofSection x) ≡ 0) where
     pub rest-leads : {r : Rest} → StandsIn x q r → Leads (walkOf x) (r .place .0) (restOf x q r)
     unfolding walkOf
     rest-leads s = rw (rest-is s, s .place) (leads-drop (s .passed) (places-lead x q ok))
 
-    -- ---- sizes
-
-    pub places-count : length (places x q) ≡ tally (ownedAt (stridedOf x) q) (count x)
-    unfolding places
-    places-count =
-        omega (arith, passing-length (ownsAt x q) (count x) 0, tally-none (ownsAt x q), ap (tally (ownsAt x q)) (zero-add (count x)))
-        ∙ tally-same (ownsAt x q) (ownedAt (stridedOf x) q) (count x) (λ t h. owned-at x ok q t h)
-
     pub places-few : length (places x q) ≤ 2147483647
     unfolding stridedOf
-    places-few = omega (arith, places-count, tally-le (ownedAt (stridedOf x) q) (count x), bounded x ok .count-high)
+    places-few = omega (arith, places-count, tally-le (ownsAt x q) (count x), bounded x ok .count-high)
 
 -- a list costs at most 3 tries an element
 pub costs-few : (x : Section) (l : List ℕ) → sum (map (cost x) l) ≤ 3 * length l
@@ -82,19 +82,20 @@ pub owner-bounded : (y : Listed) (q : ℕ) → Owner y q → Bounded (y .strided
 unfolding stridedOf
 owner-bounded y q o =
     let f = o .fair in
-    rw (f .same) (bounded (y .section) (f .accepted), o .processor)
+    rw (f .same) (bounded (listed y) (f .accepted), o .processor)
 
 pub whole-stands : (y : Listed) (q : ℕ) → Owner y q → {p : Position} {n : ℕ} → p .0 ≡ placeIn (y .strided) q
     → n ≡ tally (ownedAt (y .strided) q) (y .strided .count)
-    → (restOf (y .section) q (record { place = p; left = n }) ≡ places (y .section) q) × StandsIn (y .section) q (record { place = p; left = n })
-unfolding stridedOf firstPlace
+    → (restOf (listed y) q (record { place = p; left = n }) ≡ places (listed y) q) × StandsIn (listed y) q (record { place = p; left = n })
+unfolding firstPlace
 whole-stands y q o {p} {n} e d =
     let f = o .fair in
-    let x = y .section in
+    let x = listed y in
+    let share = in-blocks y f q in
     let s : StandsIn x q (record { place = p; left = n }) =
     record {
       passed = 0;
-      place = e ∙ ap (λ (w : Strided). placeIn w q) (f .same) ∙ sym (place-in x (f .accepted) q);
-      left = d ∙ ap (λ (w : Strided). tally (ownedAt w q) (w .count)) (f .same) ∙ sym (places-count x q (f .accepted));
+      place = e ∙ ap placeBy share ∙ sym (place-by x (f .accepted) q);
+      left = d ∙ ap heldBy share ∙ sym (held-by x (f .accepted) q) ∙ sym (places-count x q);
     } in
     (rest-is x q s, s)

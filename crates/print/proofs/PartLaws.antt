@@ -9,7 +9,7 @@ use borrow.Author.Tests.{ne-eqb}
 use lib.ListN.{length, take, drop, take-append-drop}
 use lib.Seq.{length-take-le}
 use Rattle.numbers.specs.Search.{sum}
-use Rattle.model.specs.declared.Section.{Section}
+use Rattle.model.specs.Mappings.{Section}
 use Rattle.model.specs.Sections.{layout, count, address, places}
 use Rattle.model.specs.Steps.{cost}
 use Rattle.section.specs.declared.questions.Strided.{Strided}
@@ -24,7 +24,7 @@ use Rattle.print.specs.declared.parts.Turn.{Turn}
 use Rattle.print.specs.declared.parts.Turn.the-variants.{Line, Addresses, Done}
 use Rattle.print.specs.declared.parts.Part.{Part}
 use Rattle.print.specs.Texts.{sectionLine, refusalLine, sheetLine, processorLine, processorLines, sectionText, nextNumbers, lineFront, Puts}
-use Rattle.print.specs.Ahead.{Fair, Owner, restOf, StandsIn, Went}
+use Rattle.print.specs.Ahead.{listed, Fair, Owner, restOf, StandsIn, Went}
 use Rattle.print.specs.Turns.{linesFrom, textLeft, Stands, PartOf}
 use Rattle.print.proofs.PutLaws.{put-length, in-front, some-digits}
 use Rattle.print.proofs.LineLaws.{section-length, refusal-length, sheet-length, front-length, word-digits, long-digits, next-append, line-is, some-numbers, no-text}
@@ -49,11 +49,11 @@ module _ (y : Listed) (f : Fair y) (q : ℕ) where
   unfolding stridedOf
   owner-of h = record { fair = f; processor = rw (f .same) at h }
 
-  pub no-lines : y .strided .layout .processors ≤ q → [] ≡ linesFrom (y .section) q
+  pub no-lines : y .strided .layout .processors ≤ q → [] ≡ linesFrom (listed y) q
   unfolding stridedOf processorLines
   no-lines h =
-      let k : layout (y .section) .processors ≤ q = rw (f .same) at h in
-      let z : layout (y .section) .processors - q ≡ 0 = omega arith in
+      let k : layout (listed y) .processors ≤ q = rw (f .same) at h in
+      let z : layout (listed y) .processors - q ≡ 0 = omega arith in
       rw z
 
 -- ---- the first line
@@ -88,7 +88,7 @@ sheet-fits n h = omega (arith, sheet-length n, long-digits 14 (omega arith), lon
 
 module _ (y : Listed) (q : ℕ) (o : Owner y q) where
   abbrev x : Section
-  x = y .section
+  x = listed y
 
   lines-from : linesFrom x q ≡ processorLine x q ++ linesFrom x (suc q)
   unfolding processorLines

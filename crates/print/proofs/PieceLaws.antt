@@ -8,7 +8,7 @@ use native.Mathlib.Numerals.{add-one}
 use native.Mathlib.Omega.{arith}
 use lib.Dec.{eqb}
 use lib.ListN.{length, length-map}
-use Rattle.model.specs.declared.Section.{Section}
+use Rattle.model.specs.Mappings.{Section}
 use Rattle.model.specs.Questions.{firstNo, ofSection}
 use Rattle.model.specs.Sheets.{Sheet, IsPrint, Place, Reads, noSheet}
 use Rattle.model.specs.Sheets as reads

@@ -1,6 +1,7 @@
 -- What one fill of an accepted section takes of what is left of a processor's list.
 use Prim.Native.Nat.{ℕ, zero, suc, _+_, _-_, _≤_, _<_, min}
-use mathlib.Core.Path.{_≡_, sym, _∙_, ap, subst}
+use mathlib.Core.Path.{_≡_, sym, _∙_, ap}
+use mathlib.Core.Bool.{true}
 use mathlib.Core.List.{List, [], _∷_, _++_, map}
 use native.Mathlib.Nat.{zero-add}
 use native.Mathlib.Omega.{arith}
@@ -8,49 +9,52 @@ use lib.Dec.{lit≤}
 use lib.ListN.{length, take, drop, length-append, length-map, length-drop}
 use lib.Seq.{length-take-le, length-front, take-append-le, take-at, drop-drop}
 use Rattle.numbers.specs.Search.{headOr, sum}
-use Rattle.model.specs.declared.Section.{Section}
+use Rattle.model.specs.Mappings.{Section}
 use Rattle.model.specs.declared.Position.{Position}
-use Rattle.model.specs.Sections.{layout, count, address, places}
+use Rattle.model.specs.Sections.{count, address, places}
 use Rattle.model.specs.Steps.{cost}
 use Rattle.model.specs.Questions.{firstNo, ofSection}
 use Rattle.model.specs.Filling.{Filled, fillBy, allowed}
 use Rattle.model.specs.Calls.{walkOf}
 use Rattle.model.proofs.InTurnLaws.{given, fill-given, allowed-le}
 use Rattle.section.specs.declared.questions.Strided.{Strided}
+use Rattle.section.specs.declared.shares.Extent.the-variants.{Blocks}
+use Rattle.section.specs.declared.shares.Share.{Share}
 use Rattle.section.specs.Strides.{stridedOf}
-use Rattle.section.proofs.StridedSections.{owned-at, bounded}
-use Rattle.fill.specs.Ready.{Started}
-use Rattle.fill.specs.Starting.{Accepted}
+use Rattle.section.specs.Shares.{shareOf, ownedBy}
+use Rattle.section.proofs.ShareLaws.{owned-by}
+use Rattle.fill.specs.Ready.{Accepted}
 use Rattle.print.specs.declared.fills.Listed.{Listed}
 use Rattle.print.specs.declared.fills.Rest.{Rest}
 use Rattle.print.specs.declared.fills.Gone.{Gone}
-use Rattle.print.specs.Ahead.{Owner, restOf, StandsIn, Went}
-use Rattle.print.proofs.AheadLaws.{rest-is, place-within, place-owned, left-is, rest-leads, places-few, costs-few, costs-split}
+use Rattle.print.specs.Ahead.{listed, Owner, restOf, StandsIn, Went}
+use Rattle.print.proofs.ListedLaws.{in-blocks}
+use Rattle.print.proofs.AheadLaws.{rest-is, place-within, place-owned, left-is, rest-leads, places-few, costs-few, costs-split, owner-bounded}
 
 -- ---- it may start
 
--- of an accepted section, on natural numbers
-module _ (x : Section) (ok : firstNo (ofSection x) ≡ 0) (q : ℕ) (h : q < layout x .processors) {r : Rest} (s : StandsIn x q r) where
-  starts-in : Started (record { section = stridedOf x; processor = q; place = r .place; quota = 1000000 })
-  unfolding stridedOf
-  starts-in =
-      record {
-        section-bounded = bounded x ok;
-        processor = h;
-        place = place-within x q s;
-        owned = λ k. sym (owned-at x ok q (r .place .0) k) ∙ place-owned x q s k;
-        least = lit≤ tt;
-        most = lit≤ tt;
-      }
-
-pub starts : (y : Listed) (q : ℕ) → Owner y q → {r : Rest} → StandsIn (y .section) q r
-    → Accepted (record { section = y .strided; processor = q; place = r .place; quota = 1000000 })
+pub starts : (y : Listed) (q : ℕ) → Owner y q → {r : Rest} → StandsIn (listed y) q r
+    → Accepted (record { section = y .strided; processor = q; extent = Blocks; place = r .place; quota = 1000000 })
+unfolding stridedOf
 starts y q o {r} s =
     let f = o .fair in
+    let x = listed y in
+    let b = owner-bounded y q o in
+    let c : y .strided .count ≡ count x = ap (λ (w : Strided). w .count) (f .same) in
+    let t : ℕ = r .place .0 in
+    let mine : t < count x → ownedBy (shareOf x q) t ≡ true = λ k. sym (owned-by x (f .accepted) q t k) ∙ place-owned x q s k in
     record {
-      started = subst (λ (w : Strided). Started (record { section = w; processor = q; place = r .place; quota = 1000000 })) (sym (f .same))
-          (starts-in (y .section) (f .accepted) q (o .processor) s);
-      taken = record { source = y .section; accepted = f .accepted; same = f .same };
+      started = record {
+        section-bounded = b .0;
+        processor = b .1;
+        place = omega (arith, place-within x q s);
+        owned = λ k. ap (λ (z : Share). ownedBy z t) (in-blocks y f q) ∙ mine (omega arith);
+        least = lit≤ tt;
+        most = lit≤ tt;
+      };
+      source = x;
+      accepted = f .accepted;
+      same = in-blocks y f q;
     }
 
 -- ---- what it takes

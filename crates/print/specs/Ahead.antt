@@ -1,10 +1,10 @@
 -- What is left of a processor's list from a place on, and what a fill takes of it. Definitions only.
 use Prim.Native.Nat.{ℕ, _-_, _≤_, _<_}
 use mathlib.Core.Path.{_≡_}
-use mathlib.Core.List.{List, map}
+use mathlib.Core.List.{List, [], map}
 use lib.ListN.{length, take, drop}
 use Rattle.numbers.specs.Search.{passing, headOr, sum}
-use Rattle.model.specs.declared.Section.{Section}
+use Rattle.model.specs.Mappings.{Section, sectionWith}
 use Rattle.model.specs.Sections.{layout, count, address, ownsAt, places}
 use Rattle.model.specs.Steps.{cost}
 use Rattle.model.specs.Questions.{firstNo, ofSection}
@@ -13,15 +13,19 @@ use Rattle.print.specs.declared.fills.Listed.{Listed}
 use Rattle.print.specs.declared.fills.Rest.{Rest}
 use Rattle.print.specs.declared.fills.Gone.{Gone}
 
+-- the section that is listed; beside a sheet's section stands no list of sizes
+abbrev pub listed : Listed → Section
+listed x = sectionWith (x .section) []
+
 -- a section that passed its questions, twice: as the sheet has it, and on natural numbers
 pub record Fair (x : Listed) : Type 0 where
-  pub accepted : firstNo (ofSection (x .section)) ≡ 0
-  pub same : x .strided ≡ stridedOf (x .section)
+  pub accepted : firstNo (ofSection (listed x)) ≡ 0
+  pub same : x .strided ≡ stridedOf (listed x)
 
 -- and one of its processors
 pub record Owner (x : Listed) (q : ℕ) : Type 0 where
   pub fair : Fair x
-  pub processor : q < layout (x .section) .processors
+  pub processor : q < layout (listed x) .processors
 
 -- the positions from t on whose elements processor q owns
 unfoldable pub ahead : Section → ℕ → ℕ → List ℕ

@@ -9,7 +9,7 @@ use lib.IntN.{pos}
 use lib.ListN.{length}
 use lib.Seq.{sets}
 use Rattle.numbers.specs.Search.{sum}
-use Rattle.model.specs.declared.Section.{Section}
+use Rattle.model.specs.Mappings.{Section}
 use Rattle.model.specs.Sections.{layout, count, address, places}
 use Rattle.model.specs.Steps.{cost}
 use Rattle.model.specs.Questions.{firstNo, ofSection}

@@ -3,13 +3,13 @@ use Prim.Native.Nat.{ℕ, suc, _-_, _*_, _≤_, _<_}
 use mathlib.Core.Path.{_≡_}
 use mathlib.Core.List.{List, [], _∷_, _++_, map}
 use lib.ListN.{length, take}
-use Rattle.model.specs.declared.Section.{Section}
+use Rattle.model.specs.Mappings.{Section}
 use Rattle.model.specs.Sections.{layout, address}
 use Rattle.print.specs.declared.parts.Turn.{Turn}
 use Rattle.print.specs.declared.parts.Turn.the-variants.{Line, Addresses, Done}
 use Rattle.print.specs.declared.parts.Part.{Part}
 use Rattle.print.specs.Texts.{processorLines, nextNumbers}
-use Rattle.print.specs.Ahead.{Owner, restOf, StandsIn}
+use Rattle.print.specs.Ahead.{listed, Owner, restOf, StandsIn}
 
 -- the lines from processor q on
 abbrev pub linesFrom : Section → ℕ → List ℕ
@@ -17,14 +17,14 @@ linesFrom x q = processorLines x q (layout x .processors - q)
 
 -- the text that is left
 abbrev pub textLeft : Turn → List ℕ
-textLeft (Line x q) = linesFrom (x .section) q
+textLeft (Line x q) = linesFrom (listed x) q
 textLeft (Addresses x q r) =
-    nextNumbers (map (address (x .section)) (restOf (x .section) q r)) ++ 10 ∷ linesFrom (x .section) (suc q)
+    nextNumbers (map (address (listed x)) (restOf (listed x) q r)) ++ 10 ∷ linesFrom (listed x) (suc q)
 textLeft Done = []
 
 abbrev pub Stands : Turn → Type 0
 Stands (Line x q) = Owner x q
-Stands (Addresses x q r) = Owner x q × StandsIn (x .section) q r
+Stands (Addresses x q r) = Owner x q × StandsIn (listed x) q r
 Stands Done = Unit {0}
 
 -- room for a line's front, and for a blank and 10 digits for each entry of the list

@@ -6,7 +6,7 @@ ghost use lib.ListN.{length};
 ghost use Rattle.numbers.specs.Search.{sum};
 ghost use Rattle.model.specs.Sections.{places};
 ghost use Rattle.model.specs.Steps.{cost};
-ghost use Rattle.print.specs.Ahead.{Owner, restOf, StandsIn, Went};
+ghost use Rattle.print.specs.Ahead.{listed, Owner, restOf, StandsIn, Went};
 use fill::ready::Start;
 use fill::words::fill_from;
 use model::Position;
@@ -14,11 +14,12 @@ use model::Section;
 use section::elements::elements_of;
 use section::place::place_of;
 use section::questions::Strided;
+use section::shares::Extent;
 
 // The largest quota.
 const QUOTA: u64 = 1000000;
 
-// An accepted section: as the sheet has it, and on natural numbers.
+// An accepted section, of a cyclic template: as the sheet has it, and on natural numbers.
 pub struct Listed {
     pub section: Section,
     pub strided: Strided,
@@ -40,7 +41,7 @@ pub struct Gone {
 // All of a processor's list.
 pub fn whole(x: Listed, q: u64) -> Rest
     requires { ⌜ Owner x q ⌝ }
-    ensures { λ r. ⌜ (restOf (x .section) q r ≡ places (x .section) q) × StandsIn (x .section) q r ⌝ }
+    ensures { λ r. ⌜ (restOf (listed x) q r ≡ places (listed x) q) × StandsIn (listed x) q r ⌝ }
 {
     let w = x.strided;
     Rest {
@@ -61,8 +62,8 @@ fn room_for(left: u64, entries: usize) -> usize
 
 // One fill from the place on, of no more entries than are left.
 pub fn fill_on(x: Listed, q: u64, rest: Rest, list: &mut [u32]) -> Gone
-    requires { ⌜ Owner x q × StandsIn (x .section) q rest ⌝ }
-    ensures { λ r. ⌜ Went (x .section) q rest (now (list .entry)) (now (list .exit)) r ⌝ }
+    requires { ⌜ Owner x q × StandsIn (listed x) q rest ⌝ }
+    ensures { λ r. ⌜ Went (listed x) q rest (now (list .entry)) (now (list .exit)) r ⌝ }
 {
     let w = x.strided;
     let from = rest.place;
@@ -70,6 +71,7 @@ pub fn fill_on(x: Listed, q: u64, rest: Rest, list: &mut [u32]) -> Gone
     let start = Start {
         section: w,
         processor: q,
+        extent: Extent::Blocks,
         place: from,
         quota: QUOTA,
     };
@@ -89,7 +91,7 @@ pub fn fill_on(x: Listed, q: u64, rest: Rest, list: &mut [u32]) -> Gone
 // The tries of a processor's full list.
 pub fn tries_of(x: Listed, q: u64, list: &mut [u32]) -> u64
     requires { ⌜ Owner x q × (0 < length (now list)) ⌝ }
-    ensures { λ r. ⌜ r ≡ sum (map (cost (x .section)) (places (x .section) q)) ⌝ }
+    ensures { λ r. ⌜ r ≡ sum (map (cost (listed x)) (places (listed x) q)) ⌝ }
 {
     let mut rest = whole(x, q);
     let mut tries: u64 = 0;

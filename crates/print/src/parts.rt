@@ -2,8 +2,10 @@
 // line, addresses of it, and its newline.
 ghost use Prim.Native.Nat.{_≤_};
 ghost use mathlib.Core.Path.{_≡_};
+ghost use mathlib.Core.List.{[]};
 ghost use lib.ListN.{length};
-ghost use Rattle.print.specs.Ahead.{Fair, Owner, StandsIn};
+ghost use Rattle.model.specs.Mappings.{sectionWith};
+ghost use Rattle.print.specs.Ahead.{listed, Fair, Owner, StandsIn};
 ghost use Rattle.print.specs.Texts.{sectionText};
 ghost use Rattle.print.specs.Turns.{linesFrom, textLeft, Stands, Room, PartOf};
 ghost use Rattle.print.specs.declared.parts.Turn.the-variants.{Line, Addresses};
@@ -37,7 +39,7 @@ pub struct Part {
 // Processor q's line, if there is such a processor.
 fn line_or_done(x: Listed, q: u64) -> Turn
     requires { ⌜ Fair x ⌝ }
-    ensures { λ r. ⌜ (textLeft r ≡ linesFrom (x .section) q) × Stands r ⌝ }
+    ensures { λ r. ⌜ (textLeft r ≡ linesFrom (listed x) q) × Stands r ⌝ }
 {
     let l = x.strided.layout;
     if q < l.processors {
@@ -46,12 +48,13 @@ fn line_or_done(x: Listed, q: u64) -> Turn
     Turn::Done
 }
 
-// The first line of section j.
+// The first line of section j, beside which no list of sizes stands.
 pub fn first_part(j: u64, x: Section, out: &mut [u8]) -> Part
     requires { ⌜ 64 ≤ length (now out) ⌝ }
-    ensures { λ r. ⌜ PartOf (sectionText j x) (now (out .exit)) r ⌝ }
+    ensures { λ r. ⌜ PartOf (sectionText j (sectionWith x [])) (now (out .exit)) r ⌝ }
 {
-    match ask_section(x) {
+    let no_sizes = [0u8; 0];
+    match ask_section(x, &no_sizes) {
         Asked::By(w) => {
             let y = Listed {
                 section: x,
@@ -84,7 +87,7 @@ fn front_part(x: Listed, q: u64, list: &mut [u32], out: &mut [u8]) -> Part
 
 // As many addresses as one fill gives, or the newline where none is left.
 fn addresses_part(x: Listed, q: u64, rest: Rest, list: &mut [u32], out: &mut [u8]) -> Part
-    requires { ⌜ Owner x q × StandsIn (x .section) q rest × Room (now list) (now out) ⌝ }
+    requires { ⌜ Owner x q × StandsIn (listed x) q rest × Room (now list) (now out) ⌝ }
     ensures { λ r. ⌜ PartOf (textLeft (Addresses x q rest)) (now (out .exit)) r ⌝ }
 {
     if rest.left == 0 {

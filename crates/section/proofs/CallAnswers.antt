@@ -1,24 +1,30 @@
 -- What the public calls answer, from the answer to questions 1 to 7.
 use Prim.Native.Nat.{ℕ}
-use mathlib.Core.Path.{_≡_, refl, sym, ap, _∙_}
+use mathlib.Core.Path.{_≡_, refl, sym, ap, _∙_, subst}
 use mathlib.Core.Bool.{Bool, true, false, cond}
 use mathlib.Core.List.{_++_}
 use native.Mathlib.Omega.{arith}
-use borrow.Author.Tests.{eqb-true, eqb-false, ne-eqb}
+use borrow.Author.Tests.{eqb-true, eqb-false, eq-eqb, ne-eqb}
 use lib.Dec.{eqb}
 use lib.IntN.{ℤ, pos}
-use Rattle.model.specs.declared.Section.{Section}
-use Rattle.model.specs.Ownership.{nat}
+use Rattle.model.specs.Mappings.{Section}
+use Rattle.model.specs.Ownership.{nat, layoutOf}
 use Rattle.model.specs.Sections.{layout, firstPlace}
-use Rattle.model.specs.Questions.{firstNo, isBelow, ofSection, ofProcessor}
+use Rattle.model.specs.Questions.{firstNo, isBelow, ofMapping, ofSection, ofProcessor}
 use Rattle.model.specs.Calls.{stepsReport, sectionSteps, PlaceAnswer, firstPlaceAt}
 use Rattle.model.proofs.QuestionLaws.{all-yes, asks-on, stops}
 use Rattle.model.proofs.AcceptedLaws.{mapping-yes, whole-mapping}
+use Rattle.mapping.specs.declared.questions.Mapped.the-variants as mapped
+use Rattle.mapping.specs.Answers.{mappedOf}
+use Rattle.mapping.specs.Parts.{partIn, Listed}
+use Rattle.mapping.proofs.CallLaws.{listed-by}
 use Rattle.section.specs.declared.questions.Strided.{Strided}
 use Rattle.section.specs.declared.questions.Asked.the-variants.{By, Refused}
-use Rattle.section.specs.Strides.{stridedOf, placeIn, stepsIn}
+use Rattle.section.specs.Strides.{stridedOf}
+use Rattle.section.specs.Shares.{shareIn, placeBy, stepsFor}
 use Rattle.section.specs.Answers.{askedOf, noSteps, noPlace, firstPlaceIn}
-use Rattle.section.proofs.StridedSections.{steps-in, place-in}
+use Rattle.section.proofs.ShareLaws.{steps-for}
+use Rattle.section.proofs.ShareLaws as shares
 
 module _ (x : Section) where
   -- ---- what the answer says of the questions
@@ -49,13 +55,22 @@ module _ (x : Section) where
           let f : firstNo (ofSection x) ≡ q = let g = rw p at e in cc in
           record { first = f; some = λ z. eqb-false (firstNo (ofSection x)) 0 p (f ∙ z) }
 
+  -- its list passed question 16
+  pub listed : (w : Strided) → askedOf x ≡ By w → Listed (w .layout) (x .mapping .dealing)
+  unfolding mappedOf stridedOf layout
+  listed w e =
+      let p = passed w e in
+      let m = x .mapping in
+      let by : mappedOf m ≡ mapped.By (layoutOf m) (m .lower) = rw (eq-eqb (firstNo (ofMapping m)) 0 (mapping-yes x (p .none))) in
+      subst (λ (v : Strided). Listed (v .layout) (m .dealing)) (sym (p .strided)) (listed-by m (layoutOf m) (m .lower) by)
+
   -- ---- section steps
 
-  pub steps-by : (w : Strided) → askedOf x ≡ By w → stepsReport (w .count) (stepsIn w) ≡ sectionSteps x
+  pub steps-by : (w : Strided) → askedOf x ≡ By w → stepsReport (w .count) (stepsFor w (x .mapping .dealing)) ≡ sectionSteps x
   unfolding sectionSteps stridedOf
   steps-by w e =
       let p = passed w e in
-      ap (λ (v : Strided). stepsReport (v .count) (stepsIn v)) (p .strided) ∙ sym (rw (p .none, steps-in x))
+      ap (λ (v : Strided). stepsReport (v .count) (stepsFor v (x .mapping .dealing))) (p .strided) ∙ sym (rw (p .none, steps-for x))
 
   pub steps-refused : (q : ℕ) → askedOf x ≡ Refused q → noSteps q ≡ sectionSteps x
   unfolding sectionSteps
@@ -84,13 +99,13 @@ module _ (x : Section) where
     decided true t = refl
     decided false t = refl
 
-    pub place-by : (w : Strided) → askedOf x ≡ By w → firstPlaceIn w q ≡ firstPlaceAt x q
+    pub place-by : (w : Strided) → askedOf x ≡ By w → firstPlaceIn w (x .mapping .dealing) q ≡ firstPlaceAt x q
     unfolding firstPlaceIn firstPlaceAt answer
     place-by w e =
         let p = passed w e in
-        let place : placeIn w (nat q) ≡ firstPlace x (nat q) =
-        ap (λ (v : Strided). placeIn v (nat q)) (p .strided) ∙ sym (place-in x (p .none) (nat q)) in
-        decided (isBelow (pos (w .layout .processors)) q) (placeIn w (nat q)) ∙ (λ i. answer (eighth w p i) (place i))
+        let from : Strided → ℕ = λ v. placeBy (shareIn v (nat q) (partIn (x .mapping .dealing) (nat q))) in
+        let place : from w ≡ firstPlace x (nat q) = ap from (p .strided) ∙ sym (shares.place-by x (p .none) (nat q)) in
+        decided (isBelow (pos (w .layout .processors)) q) (from w) ∙ (λ i. answer (eighth w p i) (place i))
 
     pub place-refused : (e : ℕ) → askedOf x ≡ Refused e → noPlace e ≡ firstPlaceAt x q
     unfolding firstPlaceAt

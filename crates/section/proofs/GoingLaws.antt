@@ -1,31 +1,29 @@
--- Going on from a position of an accepted section: the numbers fit, and the next place is document 01's, the next position
--- that the same processor owns.
-use Prim.Native.Nat.{ℕ, suc, _+_, _-_, _*_, _≤_, _<_}
-use mathlib.Core.Path.{_≡_, refl, sym, ap, _∙_}
+-- Going on from a position of an accepted section in blocks: the numbers fit, and the next place is document 01's.
+use Prim.Native.Nat.{ℕ, _+_, _-_, _*_, _≤_, _<_}
+use mathlib.Core.Path.{_≡_, refl, ap, _∙_}
 use mathlib.Core.Bool.{Bool, true, false}
 use native.Mathlib.Nat.{mul-pos}
 use mathlib.Core.Logic.{_⊎_, inl, inr}
 use native.Mathlib.Omega.{arith}
 use borrow.Author.Tests.{lt-ltb}
-use Rattle.numbers.specs.Search.{passing, headOr}
 use Rattle.numbers.proofs.Division.{product-le}
-use Rattle.numbers.proofs.SearchLaws.{head-le, passing-same}
-use Rattle.model.specs.declared.Section.{Section}
+use Rattle.numbers.proofs.SearchLaws.{head-le}
+use Rattle.model.specs.Mappings.{Section}
 use Rattle.model.specs.declared.Steps.{Steps}
 use Rattle.model.specs.declared.Steps.the-variants.{NoStep, OneStep, TwoSteps}
 use Rattle.model.specs.Ownership.{courseCells, columnOf}
-use Rattle.model.specs.Sections.{layout, count, cell, ownsAt}
-use Rattle.model.specs.Steps.{processorIndex, returnIndex, processorStep, returnStep, stepsBy, tryBoth, goOn, spread, stepsOf, upward, going, nextPlace}
+use Rattle.model.specs.Sections.{layout, count, cell}
+use Rattle.model.specs.Steps.{processorIndex, returnIndex, processorStep, returnStep, stepsBy, tryBoth, goOn, spread, upward, cyclicSteps, cyclicGoing, cyclicNext}
 use Rattle.model.specs.Steps as document
 use Rattle.model.specs.Questions.{firstNo, ofSection}
 use Rattle.model.proofs.Rests.{le-or-lt}
 use Rattle.model.proofs.StepLaws.{step-cases}
-use Rattle.model.proofs.WalkTheorem.{Walks, walks, Some, some-steps, next-place-by}
+use Rattle.model.proofs.WalkTheorem.{Some, some-steps, next-place-by}
 use Rattle.section.specs.declared.questions.Strided.{Strided}
-use Rattle.section.specs.Strides.{stridedOf, Bounded, ownedAt, stepsIn}
+use Rattle.section.specs.Strides.{stridedOf, Bounded, stepsIn}
 use Rattle.section.specs.Going.{onFrom, nextBy, nextIn}
 use Rattle.section.proofs.StridedLaws.{course-high, index-inside, indices-rise, indices-fall}
-use Rattle.section.proofs.StridedSections.{cell-at, owned-at}
+use Rattle.section.proofs.StridedSections.{cell-at}
 
 -- ---- the numbers fit
 
@@ -79,21 +77,12 @@ module _ (x : Section) (ok : firstNo (ofSection x) ≡ 0) (t : ℕ) (h : t < cou
   by-steps (TwoSteps r b) f =
       ap (λ (c : ℕ). onFrom (stridedOf x) t (tryBoth (upward x) (layout x .block) (columnOf (layout x) c) r b .cells)) (cell-at x ok t h)
 
-  pub next-in : nextPlace x t ≡ nextIn (stridedOf x) t
-  unfolding nextIn stridedOf nextPlace stepsOf stepsBy document.nextBy going spread
+  pub next-in : cyclicNext x t ≡ nextIn (stridedOf x) t
+  unfolding nextIn stridedOf cyclicNext cyclicSteps stepsBy document.nextBy cyclicGoing spread
   next-in = go (le-or-lt 2 (count x))
     where
-      go : (2 ≤ count x) ⊎ (count x < 2) → nextPlace x t ≡ nextIn (stridedOf x) t
+      go : (2 ≤ count x) ⊎ (count x < 2) → cyclicNext x t ≡ nextIn (stridedOf x) t
       go (inl two) =
           next-place-by x ok t h two
-          ∙ by-steps (stepsOf x) (some-steps (count x) (courseCells (layout x)) (layout x .block) (spread x) two)
+          ∙ by-steps (cyclicSteps x) (some-steps (count x) (courseCells (layout x)) (layout x .block) (spread x) two)
       go (inr few) = rw (lt-ltb (count x) 2 few)
-
-  -- it is the next position that the same processor owns, or the count
-  pub next-owned : (q : ℕ) → ownedAt (stridedOf x) q t ≡ true
-      → nextIn (stridedOf x) t ≡ headOr (count x) (passing (ownedAt (stridedOf x) q) (suc t) (count x - suc t))
-  unfolding Walks
-  next-owned q mine =
-      sym next-in ∙ walks x ok q t h (owned-at x ok q t h ∙ mine)
-      ∙ ap (headOr (count x))
-      (passing-same (ownsAt x q) (ownedAt (stridedOf x) q) (count x - suc t) (suc t) (λ u a b. owned-at x ok q u (omega arith)))

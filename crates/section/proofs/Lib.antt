@@ -16,5 +16,7 @@ pub mod Windows
 pub mod PlaceLaws
 pub mod GoingLaws
 pub mod ElementLaws
+-- shares
+pub mod ShareLaws
 -- the public calls
 pub mod CallAnswers

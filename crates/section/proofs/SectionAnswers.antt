@@ -7,7 +7,7 @@ use borrow.Author.Tests.{eqb-true, eqb-false, ne-eqb}
 use lib.Dec.{eqb}
 use lib.IntN.{ℤ}
 use Rattle.model.specs.declared.Layout.{Layout}
-use Rattle.model.specs.declared.Section.{Section}
+use Rattle.model.specs.Mappings.{Section}
 use Rattle.model.specs.Sections.{layout}
 use Rattle.model.specs.Questions.{firstNo, ofMapping, ofTriplet, ofSection}
 use Rattle.model.proofs.QuestionLaws.{stops}

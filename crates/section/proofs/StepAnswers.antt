@@ -1,19 +1,24 @@
 -- The steps of an accepted section, by cases.
 use Prim.Native.Nat.{ℕ, _*_, _≤_, _<_}
-use mathlib.Core.Path.{_≡_}
+use mathlib.Core.Path.{_≡_, refl}
+use mathlib.Core.Bool.{Bool, true, false}
 use native.Mathlib.Nat.{mul-pos}
 use native.Mathlib.Omega.{arith}
-use borrow.Author.Tests.{lt-ltb, le-ltb}
+use lib.Dec.{ltb}
+use borrow.Author.Tests.{lt-ltb, le-ltb, ltb-false}
 use Rattle.numbers.specs.Gcd.{gcd}
 use Rattle.numbers.proofs.GcdLaws.{gcd-pos-left}
+use Rattle.model.specs.declared.Steps.{Steps}
 use Rattle.model.specs.declared.Steps.the-variants.{NoStep, OneStep, TwoSteps}
+use Rattle.model.specs.Mappings.{Dealing, cyclic, genBlock}
 use Rattle.model.specs.Ownership.{courseCells}
-use Rattle.model.specs.Steps.{processorStep, returnStep, oneStep, stepsBy}
+use Rattle.model.specs.Steps.{processorStep, returnStep, oneStep, stepsBy, runSteps}
 use Rattle.model.proofs.Rests.{Course}
 use Rattle.model.proofs.CellOwners.{block-le}
 use Rattle.model.proofs.StepLaws.{step-cases, processor-law, return-law}
 use Rattle.section.specs.declared.questions.Strided.{Strided}
 use Rattle.section.specs.Strides.{Bounded, stepsIn}
+use Rattle.section.specs.Shares.{stepsFor}
 use Rattle.section.specs.Falls.{Searched}
 use Rattle.section.specs.Answers.{Short}
 use Rattle.section.proofs.StridedLaws.{course-high}
@@ -58,10 +63,10 @@ module _ (w : Strided) {m s : ℕ} (em : m ≡ courseCells (w .layout)) (es : s 
         }
 
 -- the column moves are shorter than a block
-pub short : (w : Strided) → Bounded w → Short (stepsIn w)
+pub cyclic-short : (w : Strided) → Bounded w → Short 65536 (stepsIn w)
 unfolding oneStep
-short w b =
-    step-cases Short (w .count) (courseCells (w .layout)) (w .layout .block) (w .layout .stride * w .stride)
+cyclic-short w b =
+    step-cases (Short 65536) (w .count) (courseCells (w .layout)) (w .layout .block) (w .layout .stride * w .stride)
     (λ l. tt)
     (λ l d. (omega (arith, processor-law h d .few, b .sized .block-high), omega (arith, return-law h d .few, b .sized .block-high)))
     (λ l d. omega arith)
@@ -73,3 +78,21 @@ short w b =
           block-le = block-le (w .layout) (b .sized .processors-pos) (b .sized .block-pos);
           spread-pos = mul-pos (b .sized .stride-pos) (b .stride-pos);
         }
+
+-- and that of a run is no longer than the template
+run-short : (w : Strided) → Bounded w → Short 2147483647 (runSteps (w .count) (w .layout .stride * w .stride))
+unfolding runSteps
+run-short w b = go (ltb (w .count) 2) refl
+  where
+    go : (few : Bool) → ltb (w .count) 2 ≡ few → Short 2147483647 (runSteps (w .count) (w .layout .stride * w .stride))
+    go true e = rw e tt
+    go false e = rw e (omega (arith, b .spread-high (ltb-false (w .count) 2 e)))
+
+pub short : (w : Strided) → Bounded w → (d : Dealing) → Short 2147483647 (stepsFor w d)
+short w b (cyclic k) = go (stepsIn w) (cyclic-short w b)
+  where
+    go : (s : Steps) → Short 65536 s → Short 2147483647 s
+    go NoStep h = tt
+    go (OneStep r) h = omega arith
+    go (TwoSteps r u) h = (omega (arith, h .0), omega (arith, h .1))
+short w b (genBlock sizes left) = run-short w b

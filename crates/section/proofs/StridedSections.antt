@@ -1,4 +1,5 @@
--- The natural numbers of an accepted section: their bounds, and that they give its indices, cells, owners, steps and places.
+-- The natural numbers of an accepted section: their bounds, and that they give its indices and cells, and in the cyclic dealing
+-- its owners, steps and places.
 use Prim.Native.Nat.{ℕ, _+_, _-_, _*_, _≤_, _<_}
 use mathlib.Core.Path.{_≡_, refl, ap, subst}
 use mathlib.Core.Bool.{Bool, true, false}
@@ -6,14 +7,15 @@ use native.Mathlib.Nat.{zero-add, le-mul-of-pos-right}
 use native.Mathlib.Decide.{decLt}
 use native.Mathlib.Omega.{arith}
 use lib.IntN.{natAbs}
-use Rattle.numbers.specs.Search.{headOr}
+use Rattle.numbers.specs.Search.{passing, headOr}
 use Rattle.numbers.proofs.SearchLaws.{passing-same}
-use Rattle.model.specs.declared.Section.{Section}
+use Rattle.model.specs.Mappings.{Section}
 use Rattle.model.specs.Ownership.{cellOf, ownerOf, owns, rank}
-use Rattle.model.specs.Sections.{layout, count, index, cell, address, ownsAt, places, firstPlace}
-use Rattle.model.specs.Steps.{spread, stepsOf, upward}
+use Rattle.model.specs.Sections.{layout, count, index, cell}
+use Rattle.model.specs.Steps.{spread, upward, cyclicSteps}
 use Rattle.model.specs.Questions.{firstNo, ofSection}
 use Rattle.model.proofs.AcceptedLaws.{Accepted, accepted}
+use Rattle.model.proofs.WalkTheorem.{cyclicOwns}
 use Rattle.model.proofs.SectionLaws.{Moved, index-lt, index-moved, spread-high}
 use Rattle.section.specs.Strides.{stridedOf, Bounded, moved, indexAt, cellAt, ownedAt, placeIn, stepsIn}
 
@@ -74,26 +76,25 @@ module _ (x : Section) (ok : firstNo (ofSection x) ≡ 0) where
       go true e = e
       go false e = omega arith
 
-  pub address-at : (t : ℕ) → t < count x → address x t ≡ rank (ownerOf (layout x)) (indexAt (stridedOf x) t)
-  unfolding address
+  pub address-at : (t : ℕ) → t < count x → rank (ownerOf (layout x)) (index x t) ≡ rank (ownerOf (layout x)) (indexAt (stridedOf x) t)
   address-at t h = ap (rank (ownerOf (layout x))) (index-at t h)
 
   pub cell-at : (t : ℕ) → t < count x → cell x t ≡ cellAt (stridedOf x) t
   unfolding cell cellAt stridedOf
   cell-at t h = ap (cellOf (layout x)) (index-at t h)
 
-  pub owned-at : (q t : ℕ) → t < count x → ownsAt x q t ≡ ownedAt (stridedOf x) q t
-  unfolding ownsAt ownedAt stridedOf
+  pub owned-at : (q t : ℕ) → t < count x → cyclicOwns x q t ≡ ownedAt (stridedOf x) q t
+  unfolding ownedAt stridedOf
   owned-at q t h = ap (owns (ownerOf (layout x)) q) (index-at t h)
 
-  pub place-in : (q : ℕ) → firstPlace x q ≡ placeIn (stridedOf x) q
-  unfolding firstPlace places placeIn stridedOf
+  pub place-in : (q : ℕ) → headOr (count x) (passing (cyclicOwns x q) 0 (count x)) ≡ placeIn (stridedOf x) q
+  unfolding placeIn stridedOf
   place-in q =
       ap (headOr (count x))
-      (passing-same (ownsAt x q) (ownedAt (stridedOf x) q) (count x) 0 (λ t h l. owned-at q t (omega arith)))
+      (passing-same (cyclicOwns x q) (ownedAt (stridedOf x) q) (count x) 0 (λ t h l. owned-at q t (omega arith)))
 
 -- its steps
 module _ (x : Section) where
-  pub steps-in : stepsOf x ≡ stepsIn (stridedOf x)
-  unfolding stepsOf stridedOf spread
+  pub steps-in : cyclicSteps x ≡ stepsIn (stridedOf x)
+  unfolding cyclicSteps stridedOf spread
   steps-in = refl

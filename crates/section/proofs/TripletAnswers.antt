@@ -10,7 +10,7 @@ use lib.IntN.{ℤ, pos, negsuc, natAbs, _+ℤ_, _-ℤ_, _*ℤ_, zero-*ℤ, +ℤ-
 use lib.Signed.{quotZ, leZ, nonNeg}
 use Rattle.numbers.proofs.Signed.{size-add, size-sub, size-quot}
 use Rattle.model.specs.declared.Layout.{Layout}
-use Rattle.model.specs.declared.Section.{Section}
+use Rattle.model.specs.Mappings.{Section}
 use Rattle.model.specs.Ownership.{nat, fromLower}
 use Rattle.model.specs.Sections.{countOf, elementAt, layout, count, index}
 use Rattle.model.specs.Steps.{upward}

@@ -5,7 +5,7 @@ use lib.Dec.{eqb}
 use lib.IntN.{ℤ, pos, natAbs, _-ℤ_}
 use lib.Signed.{leZ}
 use Rattle.model.specs.declared.Layout.{Layout}
-use Rattle.model.specs.declared.Section.{Section}
+use Rattle.model.specs.Mappings.{Dealing, Section}
 use Rattle.model.specs.declared.Step.{Step}
 use Rattle.model.specs.declared.Steps.{Steps}
 use Rattle.model.specs.declared.Steps.the-variants.{NoStep, OneStep, TwoSteps}
@@ -13,6 +13,7 @@ use Rattle.model.specs.Ownership.{nat}
 use Rattle.model.specs.Sections.{countOf}
 use Rattle.model.specs.Questions.{isBelow, inRange, firstNo, ofSection}
 use Rattle.model.specs.Calls.{StepReport, noReport, forward, backward, SectionStepsAnswer, PlaceAnswer}
+use Rattle.mapping.specs.Parts.{partIn}
 use Rattle.section.specs.declared.questions.Asked.{Asked}
 use Rattle.section.specs.declared.questions.Asked.the-variants.{By, Refused}
 use Rattle.section.specs.declared.questions.Strided.{Strided}
@@ -21,7 +22,8 @@ use Rattle.section.specs.declared.report.SectionSteps.{SectionSteps}
 use Rattle.section.specs.declared.report.SectionSteps.the-variants as steps
 use Rattle.section.specs.declared.place.Placed.{Placed}
 use Rattle.section.specs.declared.place.Placed.the-variants as placed
-use Rattle.section.specs.Strides.{tripletOf, endsIn, stridedOf, Bounded, placeIn}
+use Rattle.section.specs.Strides.{tripletOf, endsIn, stridedOf, Bounded}
+use Rattle.section.specs.Shares.{shareIn, placeBy}
 
 -- the section if its questions, of which e is the first that is answered no, passed
 abbrev pub askedBy : Section → ℕ → Asked
@@ -70,11 +72,11 @@ abbrev pub reportBy : Bool → Step → StepReport
 reportBy true = backward
 reportBy false = forward
 
--- steps whose column moves are no larger than a block
-abbrev pub Short : Steps → Type 0
-Short NoStep = Unit {0}
-Short (OneStep r) = r .column ≤ 65536
-Short (TwoSteps r w) = (r .column ≤ 65536) × (w .column ≤ 65536)
+-- steps whose column moves are no larger than n
+abbrev pub Short : ℕ → Steps → Type 0
+Short n NoStep = Unit {0}
+Short n (OneStep r) = r .column ≤ n
+Short n (TwoSteps r w) = (r .column ≤ n) × (w .column ≤ n)
 
 -- ---- first place
 
@@ -86,5 +88,7 @@ placedAs (placed.At t) = record { refusal = 0; place = t .0 }
 placedAs (placed.Refused e) = noPlace e
 
 -- what is left to ask of an accepted section, and the answer
-unfoldable pub firstPlaceIn : Strided → ℤ → PlaceAnswer
-firstPlaceIn w q = cond (isBelow (pos (w .layout .processors)) q) (record { refusal = 0; place = placeIn w (nat q) }) (noPlace 8)
+unfoldable pub firstPlaceIn : Strided → Dealing → ℤ → PlaceAnswer
+firstPlaceIn w d q =
+    cond (isBelow (pos (w .layout .processors)) q) (record { refusal = 0; place = placeBy (shareIn w (nat q) (partIn d (nat q))) })
+    (noPlace 8)

@@ -2,8 +2,9 @@
 pub mod Strides
 pub mod Cases
 pub mod CasesByHand
-pub mod Answers
 pub mod Places
 pub mod Falls
 pub mod Going
 pub mod Elements
+pub mod Shares
+pub mod Answers

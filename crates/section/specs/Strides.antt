@@ -6,7 +6,7 @@ use lib.Dec.{eqb}
 use lib.IntN.{ℤ, pos, natAbs, _+ℤ_, _*ℤ_}
 use Rattle.numbers.specs.Search.{passing, headOr}
 use Rattle.model.specs.declared.Triplet.{Triplet}
-use Rattle.model.specs.declared.Section.{Section}
+use Rattle.model.specs.Mappings.{Section}
 use Rattle.model.specs.declared.Steps.{Steps}
 use Rattle.model.specs.Ownership.{cellOf, courseCells, ownerOf, owns}
 use Rattle.model.specs.Sections.{layout, count, index}

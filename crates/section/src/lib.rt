@@ -1,7 +1,9 @@
-// Sections of an array that is aligned to a template dealt in blocks: which are accepted,
-// their steps, and each processor's first place. The questions are put in questions.rt,
-// the arithmetic of an accepted section stands in the other modules.
+// Sections of an array that is aligned to a template dealt in blocks or in runs: which are
+// accepted, their steps, and each processor's first place. The questions are put in questions.rt,
+// shares.rt has what goes by the dealing, and the arithmetic of an accepted section stands in the
+// other modules.
 ghost use mathlib.Core.Path.{_≡_};
+ghost use Rattle.model.specs.Mappings.{sectionWith};
 ghost use Rattle.model.specs.Calls.{sectionSteps, firstPlaceAt};
 ghost use Rattle.section.specs.Answers.{stepsAs, placedAs};
 use model::Section;
@@ -11,7 +13,7 @@ use questions::Asked;
 use questions::ask_section;
 use report::SectionSteps;
 use report::report_of;
-use steps::steps_of;
+use steps::steps_by;
 
 mod count;
 pub mod elements;
@@ -20,25 +22,30 @@ pub mod place;
 pub mod positions;
 pub mod questions;
 pub mod report;
+pub mod shares;
 pub mod steps;
 pub mod strides;
 
 // The count of a section and its steps.
-pub fn section_steps(x: Section) -> SectionSteps
-    ensures { λ r. ⌜ stepsAs r ≡ sectionSteps x ⌝ }
+pub fn section_steps(x: Section, sizes: &[u8]) -> SectionSteps
+    ensures { λ r. ⌜ stepsAs r ≡ sectionSteps (sectionWith x (now (sizes .entry))) ⌝ }
 {
-    match ask_section(x) {
-        Asked::By(w) => report_of(w.count, steps_of(w)),
+    let m = x.mapping;
+    let d = m.dealing;
+    match ask_section(x, sizes) {
+        Asked::By(w) => report_of(w.count, steps_by(w, d)),
         Asked::Refused(q) => SectionSteps::Refused(q),
     }
 }
 
 // The lowest position whose element the processor owns, or the count if there is none.
-pub fn first_place(x: Section, processor: i64) -> Placed
-    ensures { λ r. ⌜ placedAs r ≡ firstPlaceAt x processor ⌝ }
+pub fn first_place(x: Section, sizes: &[u8], processor: i64) -> Placed
+    ensures { λ r. ⌜ placedAs r ≡ firstPlaceAt (sectionWith x (now (sizes .entry))) processor ⌝ }
 {
-    match ask_section(x) {
-        Asked::By(w) => placed_in(w, processor),
+    let m = x.mapping;
+    let d = m.dealing;
+    match ask_section(x, sizes) {
+        Asked::By(w) => placed_in(w, d, sizes, processor),
         Asked::Refused(q) => Placed::Refused(q),
     }
 }

@@ -1,16 +1,20 @@
-// A processor's first place in an accepted section: the first multiple of the spread that
-// leads from the column of the section's first cell into the processor's block.
+// A processor's first place in an accepted section: in blocks the first multiple of the spread
+// that leads from the column of the section's first cell into the processor's block.
 ghost use mathlib.Core.Path.{_≡_};
 ghost use Prim.Native.Nat.{_+_, _-_, _<_};
 ghost use Rattle.section.specs.Strides.{Bounded, placeIn};
 ghost use Rattle.section.specs.Places.{firstFrom, foundBelow, Block};
+ghost use Rattle.model.specs.Mappings.{dealingWith};
+ghost use Rattle.mapping.specs.Parts.{Listed};
 ghost use Rattle.section.specs.Answers.{placedAs, firstPlaceIn};
 use crate::questions::Strided;
 use crate::questions::is_processor;
+use crate::shares::first_of;
+use crate::shares::share_of;
 use crate::strides::course_cells;
 use crate::strides::spread_of;
 use mapping::dealing::cell_of;
-use mapping::questions::natural;
+use model::Dealing;
 use model::Index;
 use model::Position;
 use numbers::Hit;
@@ -72,13 +76,14 @@ pub enum Placed {
 }
 
 // Question 8, and the first place of a processor that passes it.
-pub fn placed_in(w: Strided, processor: i64) -> Placed
-    requires { ⌜ Bounded w ⌝ }
-    ensures { λ r. ⌜ placedAs r ≡ firstPlaceIn w processor ⌝ }
+pub fn placed_in(w: Strided, d: Dealing, sizes: &[u8], processor: i64) -> Placed
+    requires { ⌜ Bounded w × Listed (w .layout) (dealingWith d (now sizes)) ⌝ }
+    ensures { λ r. ⌜ placedAs r ≡ firstPlaceIn w (dealingWith d (now (sizes .entry))) processor ⌝ }
 {
     let l = w.layout;
     if !is_processor(l, processor) {
         return Placed::Refused(8);
     }
-    Placed::At(place_of(w, natural(processor)))
+    let s = share_of(w, d, sizes, processor);
+    Placed::At(first_of(s))
 }

@@ -3,6 +3,7 @@
 ghost use mathlib.Core.Path.{_≡_};
 ghost use Prim.Native.Nat.{_≤_};
 ghost use lib.IntN.{pos, natAbs};
+ghost use Rattle.model.specs.Mappings.{sectionWith};
 ghost use Rattle.model.specs.Questions.{isBelow, inRange};
 ghost use Rattle.section.specs.Strides.{tripletOf, endsIn};
 ghost use Rattle.section.specs.Answers.{askedOf, askedIn, Sound};
@@ -90,14 +91,14 @@ fn triplet_asked(m: Layout, lower: i64, l: i64, h: i64, s: i64) -> Asked
     })
 }
 
-// Questions 1 to 7, and the section that passes them.
-pub fn ask_section(x: Section) -> Asked
-    ensures { λ r. ⌜ r ≡ askedOf x ⌝ }
+// Questions 1 to 7, 15 and 16, and the section that passes them.
+pub fn ask_section(x: Section, sizes: &[u8]) -> Asked
+    ensures { λ r. ⌜ r ≡ askedOf (sectionWith x (now (sizes .entry))) ⌝ }
     ensures { λ r. ⌜ Sound r ⌝ }
 {
     let m = x.mapping;
     let t = x.triplet;
-    match ask_mapping(m) {
+    match ask_mapping(m, sizes) {
         Mapped::By(l, lower) => triplet_asked(l, lower, t.lower, t.upper, t.stride),
         Mapped::Refused(q) => Asked::Refused(q),
     }

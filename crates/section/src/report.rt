@@ -24,7 +24,7 @@ pub enum SectionSteps {
 
 // A step that goes back moves its columns back.
 fn report_step(r: Step, back: bool) -> Reported
-    requires { ⌜ r .column ≤ 65536 ⌝ }
+    requires { ⌜ r .column ≤ 2147483647 ⌝ }
     ensures { λ s. ⌜ stepAs s ≡ reportBy back r ⌝ }
 {
     let y = r.column as i64;
@@ -37,7 +37,7 @@ fn report_step(r: Step, back: bool) -> Reported
 
 // The steps of a section of so many elements.
 pub fn report_of(count: u64, s: Steps) -> SectionSteps
-    requires { ⌜ Short s ⌝ }
+    requires { ⌜ Short 2147483647 s ⌝ }
     ensures { λ r. ⌜ stepsAs r ≡ stepsReport count s ⌝ }
 {
     match s {

@@ -3,12 +3,16 @@
 ghost use mathlib.Core.Path.{_≡_};
 ghost use Prim.Native.Nat.{_+_, _*_, _<_, _≤_};
 ghost use Rattle.numbers.specs.Gcd.{gcd};
-ghost use Rattle.model.specs.Steps.{processorStep, returnStep, oneStep};
+ghost use mathlib.Core.List.{[]};
+ghost use Rattle.model.specs.Steps.{processorStep, returnStep, oneStep, runSteps};
 ghost use Rattle.section.specs.Strides.{Bounded, stepsIn};
+ghost use Rattle.model.specs.Mappings.{dealingWith};
+ghost use Rattle.section.specs.Shares.{stepsFor};
 ghost use Rattle.section.specs.Falls.{MayFall, Fallen, Searched};
 use crate::questions::Strided;
 use crate::strides::course_cells;
 use crate::strides::spread_of;
+use model::Dealing;
 use model::Step;
 use model::Steps;
 use numbers::gcd;
@@ -102,7 +106,7 @@ fn one_step(s: u64, m: u64, d: u64) -> Step
     }
 }
 
-// The steps of a section: none for no or one element.
+// The steps of a section of a cyclic template: none for no or one element.
 pub fn steps_of(w: Strided) -> Steps
     requires { ⌜ Bounded w ⌝ }
     ensures { λ r. ⌜ r ≡ stepsIn w ⌝ }
@@ -122,4 +126,31 @@ pub fn steps_of(w: Strided) -> Steps
     let r = pair.processor;
     let b = pair.back;
     Steps::TwoSteps(r, b)
+}
+
+// And of a GEN_BLOCK template: one section stride, within one course.
+fn run_steps(w: Strided) -> Steps
+    requires { ⌜ Bounded w ⌝ }
+    ensures { λ r. ⌜ r ≡ runSteps (w .count) (w .layout .stride * w .stride) ⌝ }
+{
+    if w.count < 2 {
+        return Steps::NoStep;
+    }
+    let s = spread_of(w);
+    Steps::OneStep(Step {
+        cells: s,
+        courses: 0,
+        column: s,
+    })
+}
+
+// The steps of a section, by the dealing.
+pub fn steps_by(w: Strided, d: Dealing) -> Steps
+    requires { ⌜ Bounded w ⌝ }
+    ensures { λ r. ⌜ r ≡ stepsFor w (dealingWith d []) ⌝ }
+{
+    match d {
+        Dealing::Cyclic(_) => steps_of(w),
+        Dealing::GenBlock => run_steps(w),
+    }
 }

@@ -3,7 +3,7 @@ use Prim.Native.Nat.{ℕ, _-_}
 use mathlib.Core.List.{List, _++_, map}
 use lib.IntN.{pos}
 use lib.ListN.{length, replicate, getD}
-use Rattle.model.specs.declared.Section.{Section}
+use Rattle.model.specs.Mappings.{Section}
 use Rattle.model.specs.Sheets.{TemplateLine, ArrayLine, SectionLine, Sheet, sectionBy}
 use Rattle.sheet.specs.declared.Line.{Line}
 use Rattle.sheet.specs.declared.Lines.{Lines}

@@ -2,9 +2,12 @@
 // section of the sheet stands for. Numbers are read in number.rt, parts in part.rt. The place
 // is the first byte that no well-formed sheet has after the bytes before it.
 ghost use mathlib.Core.Path.{_≡_};
+ghost use mathlib.Core.List.{[]};
 ghost use lib.ListN.{length, getD};
+ghost use Rattle.model.specs.Mappings.{sectionWith};
 ghost use Rattle.sheet.specs.Contents.{readSheet, noLine, sectionIn};
 ghost use Rattle.sheet.specs.Answers.{refusedAt, readAs, Promised};
+use model::Dealing;
 use model::Mapping;
 use model::Section;
 use model::Triplet;
@@ -126,9 +129,10 @@ fn row(rows: [Line; 64], i: u64) -> Line
 }
 
 // What section j stands for: its triplet, and the mapping of the array and the template that
-// it names. Past the sections and the names all numbers are 0.
+// it names. Past the sections and the names all numbers are 0. A sheet's templates are cyclic: the
+// list of sizes beside the section is empty.
 pub fn section_of(content: Content, j: u64) -> Section
-    ensures { λ r. ⌜ r ≡ sectionIn content j ⌝ }
+    ensures { λ r. ⌜ sectionWith r [] ≡ sectionIn content j ⌝ }
 {
     let sections = content.sections.rows;
     let arrays = content.arrays.rows;
@@ -140,7 +144,7 @@ pub fn section_of(content: Content, j: u64) -> Section
         mapping: Mapping {
             cells: template.first,
             processors: template.second,
-            block: template.third,
+            dealing: Dealing::Cyclic(template.third),
             stride: array.first,
             offset: array.second,
             size: array.third,

@@ -1,6 +1,7 @@
 // A program that shows the reader at work: it reads sheets with one mistake each and prints the
 // refusal and its place; then reads document 01's sheet from standard input and prints its
 // counts, and 1 if its section is the right one.
+use model::Dealing;
 use model::Section;
 use sheet::Answer;
 
@@ -31,10 +32,19 @@ fn case(s: &[u8]) {
     answer(a);
 }
 
+// The block of a cyclic template; 0 for another.
+fn block_in(d: Dealing) -> i64 {
+    match d {
+        Dealing::Cyclic(k) => k,
+        Dealing::GenBlock => 0,
+    }
+}
+
 fn right(x: Section) -> bool {
     let m = x.mapping;
+    let d = m.dealing;
     let t = x.triplet;
-    if m.cells != 12 || m.processors != 3 || m.block != 2 {
+    if m.cells != 12 || m.processors != 3 || block_in(d) != 2 {
         return false;
     }
     if m.stride != 1 || m.offset != 0 || m.size != 12 {

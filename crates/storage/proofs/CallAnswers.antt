@@ -1,42 +1,45 @@
 -- What save and load answer and write, from the answer to the questions about the mapping.
 use Prim.Native.Nat.{ℕ, _≤_, _<_}
-use mathlib.Core.Path.{_≡_, refl, sym, ap, _∙_}
+use mathlib.Core.Path.{_≡_, refl, sym, ap, subst, _∙_}
 use mathlib.Core.Bool.{Bool, true, false, cond}
 use mathlib.Core.List.{List}
-use native.Mathlib.Nat.{zero-add}
 use native.Mathlib.Omega.{arith}
 use borrow.Author.Tests.{ne-eqb, le-leb, lt-leb}
 use lib.IntN.{ℤ}
 use lib.ListN.{length}
-use Rattle.model.specs.declared.Mapping.{Mapping}
+use Rattle.model.specs.Mappings.{Mapping, mappingWith}
+use Rattle.model.specs.declared.Dealing.{Dealing}
+use Rattle.model.specs.declared.Mapping as mappings
 use Rattle.model.specs.declared.Layout.{Layout}
-use Rattle.model.specs.Ownership.{layoutOf}
+use Rattle.model.specs.Ownership.{layoutOf, owner}
 use Rattle.model.specs.Questions.{firstNo, ofMapping}
 use Rattle.model.specs.Storages.{copied}
-use Rattle.model.specs.Checkpoints.{copyOf, wordsIn, ofWords, ofCopy, copying, placeOf, inOrder, afterCopy}
+use Rattle.model.specs.Checkpoints.{copyOf, wordsIn, ofWords, ofCopy, copying, placeOf, afterCopy}
 use Rattle.model.proofs.QuestionLaws.{all-yes, asks-on, stops, never}
-use Rattle.model.proofs.CopyLaws.{copied-same}
+use Rattle.model.proofs.AcceptedLaws.{mapped}
 use Rattle.mapping.specs.declared.questions.Mapped.the-variants.{By, Refused}
+use Rattle.mapping.specs.Parts.{Listed}
 use Rattle.mapping.specs.Answers.{mappedOf}
-use Rattle.mapping.proofs.CallLaws.{stopped, passed}
+use Rattle.mapping.proofs.CallLaws.{stopped, passed, listed-by}
 use Rattle.storage.specs.declared.Copied.the-variants.{Whole, Needs}
-use Rattle.storage.specs.Copying.{fromPlaces, toPlaces, copiedOn}
+use Rattle.storage.specs.Copying.{fromPlace, toPlace, copiedBy}
 use Rattle.storage.specs.Answers.{copiedAs, written, hasRoom, copiedIn, writtenIn}
+use Rattle.storage.proofs.DealtWords.{by-places}
 
 -- ---- an accepted layout
 
-module _ (b : Bool) (l : Layout) (s to : List ℕ) where
-  too-short : hasRoom (l .size) s to ≡ false → (Needs (l .size) ≡ copiedIn l s to) × (to ≡ writtenIn b l s to)
+module _ (b : Bool) (l : Layout) (d : Dealing) (s to : List ℕ) where
+  too-short : hasRoom (l .size) s to ≡ false → (Needs (l .size) ≡ copiedIn l s to) × (to ≡ writtenIn b l d s to)
   too-short h = (rw h, rw h)
 
-  pub read-short : length s < l .size → (Needs (l .size) ≡ copiedIn l s to) × (to ≡ writtenIn b l s to)
+  pub read-short : length s < l .size → (Needs (l .size) ≡ copiedIn l s to) × (to ≡ writtenIn b l d s to)
   read-short h = too-short (rw (lt-leb (l .size) (length s) h))
 
-  pub written-short : l .size ≤ length s → length to < l .size → (Needs (l .size) ≡ copiedIn l s to) × (to ≡ writtenIn b l s to)
+  pub written-short : l .size ≤ length s → length to < l .size → (Needs (l .size) ≡ copiedIn l s to) × (to ≡ writtenIn b l d s to)
   written-short k h = too-short (rw (le-leb (l .size) (length s) k, lt-leb (l .size) (length to) h))
 
-  pub whole : l .size ≤ length s → l .size ≤ length to → (to′ : List ℕ) → to′ ≡ copiedOn b l 0 (l .size) s to
-      → (Whole ≡ copiedIn l s to) × (to′ ≡ writtenIn b l s to)
+  pub whole : l .size ≤ length s → l .size ≤ length to → (to′ : List ℕ) → to′ ≡ copiedBy b l d s to
+      → (Whole ≡ copiedIn l s to) × (to′ ≡ writtenIn b l d s to)
   whole k h to′ e =
       let room : hasRoom (l .size) s to ≡ true = rw (le-leb (l .size) (length s) k, le-leb (l .size) (length to) h) in
       (rw room, rw room e)
@@ -74,13 +77,6 @@ module _ (m : Mapping) (s to : List ℕ) where
         asks-on (ofMapping m) (ofWords (wordsIn m) s to) (all-yes (ofMapping m) refl (passed m l low e .none))
         ∙ ap (λ (z : Bool). cond z 0 13) h
 
-    -- the words from index 0 on are those of all places
-    from-start : (b : Bool) (from to′ : ℕ → ℕ) → ((i : ℕ) → fromPlaces b (layoutOf m) i ≡ from i) → ((i : ℕ) → toPlaces b (layoutOf m) i ≡ to′ i)
-        → copiedOn b (layoutOf m) 0 (wordsIn m) s to ≡ copied from to′ (wordsIn m) s to
-    from-start b from to′ f t =
-        copied-same _ _ _ _ (wordsIn m) s to
-        (λ i h. ap (fromPlaces b (layoutOf m)) (zero-add i) ∙ f i) (λ i h. ap (toPlaces b (layoutOf m)) (zero-add i) ∙ t i)
-
     pub answer-by : copiedAs (copiedIn l s to) ≡ copying (copyOf m s to)
     unfolding copying layoutOf
     answer-by = rw (passed m l low e .layout) (go (hasRoom (wordsIn m) s to) refl)
@@ -89,12 +85,27 @@ module _ (m : Mapping) (s to : List ℕ) where
         go true h = rw (decided true h, h)
         go false h = rw (decided false h, h)
 
-    pub written-by : (b : Bool) → writtenIn b l s to ≡ written b (copyOf m s to)
-    unfolding afterCopy layoutOf
-    written-by b = rw (passed m l low e .layout) (go b (hasRoom (wordsIn m) s to) refl)
-      where
-        go : (b h : Bool) → hasRoom (wordsIn m) s to ≡ h → writtenIn b (layoutOf m) s to ≡ written b (copyOf m s to)
-        go true true h = rw (decided true h, h) (from-start true inOrder (placeOf m) (λ i. refl) (λ i. refl))
-        go true false h = rw (decided false h, h)
-        go false true h = rw (decided true h, h) (from-start false (placeOf m) inOrder (λ i. refl) (λ i. refl))
-        go false false h = rw (decided false h, h)
+-- ---- what is written by the dealing, with the list of its sizes
+
+module _ (m : mappings.Mapping) (bytes s to : List ℕ) (l : Layout) (low : ℤ) (e : mappedOf (mappingWith m bytes) ≡ By l low) where
+  abbrev mapping : Mapping
+  mapping = mappingWith m bytes
+
+  -- all words, between index order and the storage
+  all-words : (b : Bool) → copiedBy b (layoutOf mapping) (m .dealing) s to
+      ≡ copied (λ i. fromPlace b i (placeOf mapping i)) (λ i. toPlace b i (placeOf mapping i)) (wordsIn mapping) s to
+  unfolding owner layoutOf
+  all-words b =
+      let p = passed mapping l low e in
+      let listed = subst (λ (x : Layout). Listed x (mapping .dealing)) (p .layout) (listed-by mapping l low e) in
+      by-places (layoutOf mapping) (mapped mapping (p .none)) b (m .dealing) bytes listed s to
+
+  pub written-by : (b : Bool) → writtenIn b l (m .dealing) s to ≡ written b (copyOf mapping s to)
+  unfolding afterCopy layoutOf
+  written-by b = rw (passed mapping l low e .layout) (go b (hasRoom (wordsIn mapping) s to) refl)
+    where
+      go : (b h : Bool) → hasRoom (wordsIn mapping) s to ≡ h → writtenIn b (layoutOf mapping) (m .dealing) s to ≡ written b (copyOf mapping s to)
+      go true true h = rw (decided mapping s to l low e true h, h) (all-words true)
+      go true false h = rw (decided mapping s to l low e false h, h)
+      go false true h = rw (decided mapping s to l low e true h, h) (all-words false)
+      go false false h = rw (decided mapping s to l low e false h, h)

@@ -11,8 +11,8 @@ use borrow.Author.Tests.{ltb-true, ltb-false}
 use Rattle.model.specs.declared.Layout.{Layout}
 use Rattle.model.specs.Ownership.{ownerOf}
 use Rattle.model.specs.Storages.{storagePlace}
+use Rattle.model.proofs.CellOwners.{cyclic-owner-lt}
 use Rattle.model.proofs.CopyLaws.{copied-length, copied-joins, copied-same}
-use Rattle.model.proofs.Demand2Holds.{owner-lt}
 use Rattle.model.proofs.StorageLaws.{place-below}
 use Rattle.storage.specs.declared.runs.Pace.{Pace}
 use Rattle.storage.specs.declared.runs.Run.{Run}
@@ -111,7 +111,7 @@ module _ {l : Layout} {p : Pace} {r : Run} {row s to : List ℕ} (h : Ready l p 
     pub at-room : at + len ≤ l .size
     at-room =
         let last : ℕ = len - 1 in
-        let low = place-below (ownerOf l) (l .processors) (l .size) (λ i k. owner-lt l (h .sized .processors-pos) i) (r .index + last) (omega (arith, cut .some, cut .below)) in
+        let low = place-below (ownerOf l) (l .processors) (l .size) (λ i k. cyclic-owner-lt l (h .sized .processors-pos) i) (r .index + last) (omega (arith, cut .some, cut .below)) in
         omega (arith, low, place last (omega (arith, cut .some)), cut .some)
 
     -- so there is room in both lists

@@ -4,4 +4,5 @@ pub mod RowLaws
 pub mod CopiedRuns
 pub mod CopyRuns
 pub mod LapLaws
+pub mod DealtWords
 pub mod CallAnswers

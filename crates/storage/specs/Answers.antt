@@ -4,11 +4,12 @@ use mathlib.Core.Bool.{Bool, cond, _&&_}
 use mathlib.Core.List.{List}
 use lib.Dec.{leb}
 use lib.ListN.{length}
+use Rattle.model.specs.declared.Dealing.{Dealing}
 use Rattle.model.specs.declared.Layout.{Layout}
 use Rattle.model.specs.Checkpoints.{CopyCall, CopyAnswer, saved, loaded}
 use Rattle.storage.specs.declared.Copied.{Copied}
 use Rattle.storage.specs.declared.Copied.the-variants.{Whole, Needs, Refused}
-use Rattle.storage.specs.Copying.{copiedOn}
+use Rattle.storage.specs.Copying.{copiedBy}
 
 abbrev pub copiedAs : Copied → CopyAnswer
 copiedAs Whole = record { refusal = 0; needed = 0 }
@@ -28,5 +29,5 @@ hasRoom n s to = leb n (length s) && leb n (length to)
 abbrev pub copiedIn : Layout → List ℕ → List ℕ → Copied
 copiedIn l s to = cond (hasRoom (l .size) s to) Whole (Needs (l .size))
 
-abbrev pub writtenIn : Bool → Layout → List ℕ → List ℕ → List ℕ
-writtenIn loading l s to = cond (hasRoom (l .size) s to) (copiedOn loading l 0 (l .size) s to) to
+abbrev pub writtenIn : Bool → Layout → Dealing → List ℕ → List ℕ → List ℕ
+writtenIn loading l d s to = cond (hasRoom (l .size) s to) (copiedBy loading l d s to) to

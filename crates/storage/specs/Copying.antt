@@ -1,10 +1,13 @@
--- Words copied between the storage and index order, run by run. Definitions only.
+-- Words copied between the storage and index order: of a cyclic template run by run, of a GEN_BLOCK one all at once. Definitions
+-- only.
 use Prim.Native.Nat.{ℕ, _+_, _-_, _≤_, _<_}
 use mathlib.Core.Path.{_≡_}
 use mathlib.Core.Bool.{Bool, cond}
 use mathlib.Core.List.{List}
 use lib.Dec.{ltb}
 use lib.ListN.{length, getD, drop}
+use Rattle.model.specs.declared.Dealing.{Dealing}
+use Rattle.model.specs.declared.Dealing.the-variants.{Cyclic, GenBlock}
 use Rattle.model.specs.declared.Layout.{Layout}
 use Rattle.model.specs.Ownership.{ownerOf, held}
 use Rattle.model.specs.Storages.{storageStart, storagePlace, copied}
@@ -54,6 +57,19 @@ toPlaces loading l i = toPlace loading i (storagePlace (ownerOf l) (l .size) i)
 -- the words of m elements, from index i on
 abbrev pub copiedOn : Bool → Layout → ℕ → ℕ → List ℕ → List ℕ → List ℕ
 copiedOn loading l i m s to = copied (λ j. fromPlaces loading l (i + j)) (λ j. toPlaces loading l (i + j)) m s to
+
+-- ---- all words of the array
+
+-- an accepted layout, and lists with room for its words
+pub record Roomy (l : Layout) (s to : List ℕ) : Type 0 where
+  pub sized : Sized l
+  pub read : l .size ≤ length s
+  pub written : l .size ≤ length to
+
+-- by the dealing; that GEN_BLOCK's storages laid end to end are in index order is a law
+abbrev pub copiedBy : Bool → Layout → Dealing → List ℕ → List ℕ → List ℕ
+copiedBy loading l (Cyclic k) s to = copiedOn loading l 0 (l .size) s to
+copiedBy loading l GenBlock s to = copiedRun 0 0 (l .size) s to
 
 -- ---- some runs
 

@@ -1,4 +1,4 @@
--- How the runs of an array follow one another: a run has the elements of one block. Definitions only.
+-- How the runs of an array on a cyclic template follow one another: a run has the elements of one block. Definitions only.
 use Prim.Native.Nat.{ℕ, _+_, _-_, _*_, _/_, _%_, _≤_, _<_}
 use mathlib.Core.Path.{_≡_}
 use mathlib.Core.Bool.{cond}

@@ -1,5 +1,5 @@
-// Laps: once through the processors, the words of each run are copied between the storage and index
-// order, run by run, or word by word where every element is alone in its block.
+// Laps of a cyclic template: once through the processors, the words of each run are copied between
+// the storage and index order, run by run, or word by word where every element is alone in its block.
 ghost use mathlib.Core.Path.{_≡_};
 ghost use Rattle.storage.specs.Copying.{fromPlace, toPlace, copiedOn, leastOf, Ready, Takes, Begins};
 use crate::runs::Pace;

@@ -1,10 +1,11 @@
-// A row of pointers, one for each processor: where its words go on in the storage. No place is above
-// 2^31, and a row of 32 bits leaves more of the nearest cache to the words.
+// A row of pointers, one for each processor of a cyclic template: where its words go on in the
+// storage. No place is above 2^31, and a row of 32 bits leaves more of the nearest cache to the
+// words.
 ghost use Prim.Native.Nat.{_≤_};
 ghost use lib.ListN.{length};
 ghost use Rattle.model.specs.Sized.{Sized};
 ghost use Rattle.storage.specs.Copying.{StartsIn};
-use mapping::elements_on;
+use mapping::parts::elements_on;
 use model::Layout;
 
 // Each pointer at the start of its processor's words.

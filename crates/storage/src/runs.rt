@@ -1,6 +1,6 @@
-// Runs: elements that follow one another in one block. Their indices are consecutive, and so are
-// their local addresses. From one run to the next the column at which a block's elements begin moves
-// by one of two numbers, so that nothing is divided on the way.
+// Runs of a cyclic template's array: elements that follow one another in one block. Their indices are
+// consecutive, and so are their local addresses. From one run to the next the column at which a
+// block's elements begin moves by one of two numbers, so that nothing is divided on the way.
 ghost use mathlib.Core.Path.{_≡_};
 ghost use Prim.Native.Nat.{_<_};
 ghost use Rattle.model.specs.Sized.{Sized};

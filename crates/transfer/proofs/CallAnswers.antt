@@ -6,13 +6,12 @@ use native.Mathlib.Omega.{arith}
 use borrow.Author.Tests.{ne-eqb}
 use lib.IntN.{ℤ}
 use lib.ListN.{length}
-use Rattle.model.specs.declared.Section.{Section}
+use Rattle.model.specs.Mappings.{Section}
 use Rattle.model.specs.Ownership.{nat}
 use Rattle.model.specs.Sections.{address}
 use Rattle.model.specs.Questions.{firstNo}
 use Rattle.model.specs.Transfers.{Lists, TransferCall, pairPlaces, placesOf, ofPair, ofRoom, ofTransfer, entriesOf, transfers, withEntries, listsAfter}
 use Rattle.model.proofs.QuestionLaws.{all-yes, asks-on, stops, never}
-use Rattle.section.specs.Strides.{stridedOf}
 use Rattle.transfer.specs.declared.questions.Pair.{Pair}
 use Rattle.transfer.specs.declared.questions.Paired.the-variants.{By, Refused}
 use Rattle.transfer.specs.Pairs.{pairOf, pairAsked}
@@ -57,7 +56,7 @@ module _ (left right : Section) (q m : ℤ) (x : Lists) where
     n : ℕ
     n = entriesOf call
 
-    same : rising (pairOf (stridedOf left) (stridedOf right) q m) ≡ pairPlaces left right (nat q) (nat m)
+    same : rising (pairOf left right q m) ≡ pairPlaces left right (nat q) (nat m)
     same = same-places left right (passed .left-none) (passed .right-none) (passed .counts) (nat q) (nat m)
 
     n-is : length (rising p) ≡ n

@@ -1,23 +1,23 @@
 -- Listing an accepted pair: question 13, what the addresses ask for, and the lists in the end.
 use Prim.Native.Nat.{ℕ, _≤_, _<_}
-use mathlib.Core.Path.{_≡_, refl, ap, _∙_}
-use mathlib.Core.Bool.{true, false, _&&_, and-false}
+use mathlib.Core.Path.{_≡_, refl, sym, ap, _∙_, subst}
+use mathlib.Core.Bool.{Bool, true, false, _&&_, and-false}
 use mathlib.Core.List.{List, map}
 use mathlib.Core.Logic.{_⊎_, inl, inr}
 use native.Mathlib.Omega.{arith}
 use borrow.Author.Tests.{le-leb, lt-leb}
 use lib.Dec.{leb}
 use lib.ListN.{length, getD, take}
-use Rattle.numbers.proofs.SearchLaws.{listed}
+use Rattle.numbers.proofs.Tests.{both-true}
+use Rattle.numbers.proofs.SearchLaws.{Nth, listed}
 use Rattle.model.specs.Transfers.{Lists, fronted}
-use Rattle.transfer.specs.declared.questions.Share.{Share}
+use Rattle.section.specs.Shares.{ownedBy, addressBy}
 use Rattle.transfer.specs.declared.questions.Pair.{Pair}
 use Rattle.transfer.specs.declared.listing.Transferred.the-variants.{Entries, Needs}
-use Rattle.transfer.specs.Pairs.{Accepted, mine, places}
-use Rattle.transfer.specs.Walks.{addressIn, Addressable}
+use Rattle.transfer.specs.Pairs.{Fit, places}
+use Rattle.transfer.specs.Walks.{Addressable}
 use Rattle.transfer.specs.Answers.{listsOf, rising, hasRoom, listedIn, listsIn}
 use Rattle.transfer.proofs.FrontLaws.{front-at, front-take, front-length}
-use Rattle.transfer.proofs.PairLaws.{share-bounded}
 
 -- ---- question 13
 
@@ -41,26 +41,38 @@ module _ (p : Pair) {n : ℕ} (e : n ≡ length (rising p)) (x : Lists) where
     written : take n after ≡ rising p
     written = rw (w, e) (front-take (rising p) (x .positions))
 
-    -- what is written are positions of the section
-    pub addressable : (s : Share) (l : List ℕ) → Accepted s → s .section .count ≡ p .sender .section .count
-        → n ≤ length (x .positions) → n ≤ length l → Addressable (s .section) after n l
-    unfolding places
-    addressable s l a c h k = record {
-      bounded = share-bounded s a;
-      there = omega (arith, ap length w, front-length (rising p) (x .positions) (omega arith));
-      room = k;
-      below = λ i b.
+    -- what is written are positions in both shares, so that either's addresses may be written into a list that has room
+    module _ (f : Fit p) (h : n ≤ length (x .positions)) where
+      abbrev N : ℕ
+      N = p .sender .section .count
+
+      there : n ≤ length after
+      there = omega (arith, ap length w, front-length (rising p) (x .positions) (omega arith))
+
+      in-both : (i : ℕ) → i < n → let t = getD after i 0 in (t < N) × (ownedBy (p .sender) t ≡ true) × (ownedBy (p .receiver) t ≡ true)
+      unfolding places
+      in-both i b =
+          let both : ℕ → Bool = λ t. ownedBy (p .sender) t && ownedBy (p .receiver) t in
           let at : getD after i 0 ≡ getD (rising p) i 0 = ap (λ (z : List ℕ). getD z i 0) w ∙ front-at (rising p) (x .positions) i (omega arith) in
-          omega (arith, listed (λ t. mine (p .sender) t && mine (p .receiver) t) (p .sender .section .count) 0 i (omega arith) .below);
-    }
+          let r = subst (Nth both 0 N i) (sym at) (listed both N 0 i (omega arith)) in
+          let o = both-true (ownedBy (p .sender) (getD after i 0)) (ownedBy (p .receiver) (getD after i 0)) (r .passes) in
+          (omega (arith, r .below), o .0, o .1)
+
+      pub of-sender : (l : List ℕ) → n ≤ length l → Addressable (p .sender) after n l
+      of-sender l k =
+          record { accepted = f .first; there = there; room = k; below = λ i b. in-both i b .0; owned = λ i b. in-both i b .1 }
+
+      pub of-receiver : (l : List ℕ) → n ≤ length l → Addressable (p .receiver) after n l
+      of-receiver l k =
+          record { accepted = f .second; there = there; room = k; below = λ i b. rw (f .counts) (in-both i b .0); owned = λ i b. in-both i b .2 }
 
     -- the lists, in rising order
     pub all-listed : (sent received : List ℕ)
-        → sent ≡ fronted (map (addressIn (p .sender .section)) (take n after)) (x .sent)
-        → received ≡ fronted (map (addressIn (p .receiver .section)) (take n after)) (x .received)
+        → sent ≡ fronted (map (addressBy (p .sender)) (take n after)) (x .sent)
+        → received ≡ fronted (map (addressBy (p .receiver)) (take n after)) (x .received)
         → hasRoom n x ≡ true → (Entries n ≡ listedIn p x) × (listsOf after sent received ≡ listsIn p x)
     all-listed sent received s r h =
         let room : hasRoom (length (rising p)) x ≡ true = rw (← e) h in
-        let sent-is = s ∙ ap (λ (ts : List ℕ). fronted (map (addressIn (p .sender .section)) ts) (x .sent)) written in
-        let received-is = r ∙ ap (λ (ts : List ℕ). fronted (map (addressIn (p .receiver .section)) ts) (x .received)) written in
+        let sent-is = s ∙ ap (λ (ts : List ℕ). fronted (map (addressBy (p .sender)) ts) (x .sent)) written in
+        let received-is = r ∙ ap (λ (ts : List ℕ). fronted (map (addressBy (p .receiver)) ts) (x .received)) written in
         (rw room (ap Entries e), rw room (λ i. listsOf (w i) (sent-is i) (received-is i)))

@@ -1,13 +1,13 @@
 -- The answer to the questions of a pair, from those about its two sections.
 use Prim.Native.Nat.{ℕ}
-use mathlib.Core.Path.{_≡_, refl, sym, ap, _∙_, subst}
+use mathlib.Core.Path.{_≡_, refl, sym, _∙_, subst}
 use mathlib.Core.Bool.{Bool, true, false}
 use mathlib.Core.List.{List, _∷_, _++_}
 use native.Mathlib.Omega.{arith}
 use borrow.Author.Tests.{eqb-true, eqb-false, ne-eqb}
 use lib.Dec.{eqb}
 use lib.IntN.{ℤ}
-use Rattle.model.specs.declared.Section.{Section}
+use Rattle.model.specs.Mappings.{Section}
 use Rattle.model.specs.Ownership.{layoutOf}
 use Rattle.model.specs.Sections.{layout, count}
 use Rattle.model.specs.Questions.{Question, ask, firstNo, AllYes, isBelow, ofSection, ofProcessor}
@@ -21,33 +21,28 @@ use Rattle.section.specs.Answers.{askedOf}
 use Rattle.section.proofs.CallAnswers.{passed, stopped}
 use Rattle.transfer.specs.declared.questions.Pair.{Pair}
 use Rattle.transfer.specs.declared.questions.Paired.the-variants.{By, Refused}
-use Rattle.transfer.specs.Pairs.{pairOf, pairedBy, ofEnds, endsAsked, pairAsked, Fit}
+use Rattle.transfer.specs.Pairs.{ofEnds, pairOf, pairAsked, Fit}
 
 module _ (left right : Section) (q m : ℤ) where
   -- what is asked after the left's questions, and after the right's
   abbrev ends : List Question
   ends = ofProcessor (right .mapping) q ++ ofProcessor (left .mapping) m ++ ofCounts (count left) (count right)
 
-  abbrev pair : Pair
-  pair = pairOf (stridedOf left) (stridedOf right) q m
-
-  -- the numbers of processors are the layouts'
-  same-ends : firstNo (ofSection left) ≡ 0 → firstNo (ofSection right) ≡ 0 → firstNo ends ≡ firstNo (ofEnds (stridedOf left) (stridedOf right) q m)
-  unfolding stridedOf layout
-  same-ends l r =
-      let a = whole-mapping (left .mapping) (mapping-yes left l) .processors in
-      let b = whole-mapping (right .mapping) (mapping-yes right r) .processors in
-      λ i. firstNo (ask 8 (isBelow (b i) q) ∷ ask 8 (isBelow (a i) m) ∷ ofCounts (count left) (count right))
-
-  refused-by : (e : ℕ) → (e ≡ 0 → ⊥) → firstNo (ofPair left right q m) ≡ e → Refused e ≡ pairAsked left right q m
+  -- e is the first no
+  pub refused-by : (e : ℕ) → (e ≡ 0 → ⊥) → e ≡ firstNo (ofPair left right q m) → Refused e ≡ pairAsked left right q m
   unfolding pairAsked
-  refused-by e some f = rw (f, ne-eqb e 0 some)
+  refused-by e some f = rw (← f, ne-eqb e 0 some)
+
+  -- there is none
+  pub paired : firstNo (ofPair left right q m) ≡ 0 → By (pairOf left right q m) ≡ pairAsked left right q m
+  unfolding pairAsked
+  paired f = rw f
 
   -- the left is refused
   pub left-refused : (e : ℕ) → askedOf left ≡ asked.Refused e → Refused e ≡ pairAsked left right q m
   left-refused e r =
       let s = stopped left e r in
-      refused-by e (s .some) (stops (ofSection left) (ofSection right ++ ends) (λ z. s .some (sym (s .first) ∙ z)) ∙ s .first)
+      refused-by e (s .some) (sym (stops (ofSection left) (ofSection right ++ ends) (λ z. s .some (sym (s .first) ∙ z)) ∙ s .first))
 
   module _ (x : Strided) (l : askedOf left ≡ asked.By x) where
     after-left : firstNo (ofPair left right q m) ≡ firstNo (ofSection right ++ ends)
@@ -57,16 +52,19 @@ module _ (left right : Section) (q m : ℤ) where
     pub right-refused : (e : ℕ) → askedOf right ≡ asked.Refused e → Refused e ≡ pairAsked left right q m
     right-refused e r =
         let s = stopped right e r in
-        refused-by e (s .some) (after-left ∙ stops (ofSection right) ends (λ z. s .some (sym (s .first) ∙ z)) ∙ s .first)
+        refused-by e (s .some) (sym (after-left ∙ stops (ofSection right) ends (λ z. s .some (sym (s .first) ∙ z)) ∙ s .first))
 
-    -- both pass
-    pub both-accepted : (y : Strided) → askedOf right ≡ asked.By y → endsAsked x y q m ≡ pairAsked left right q m
-    unfolding endsAsked pairAsked
+    -- both pass: the numbers of processors are the layouts'
+    pub both-accepted : (y : Strided) → askedOf right ≡ asked.By y → firstNo (ofEnds x y q m) ≡ firstNo (ofPair left right q m)
+    unfolding stridedOf layout
     both-accepted y r =
         let a = passed left x l in
         let b = passed right y r in
-        (λ i. endsAsked (a .strided i) (b .strided i) q m)
-        ∙ ap (pairedBy pair) (sym (after-left ∙ asks-on (ofSection right) ends (all-yes (ofSection right) refl (b .none)) ∙ same-ends (a .none) (b .none)))
+        let n = whole-mapping (left .mapping) (mapping-yes left (a .none)) .processors in
+        let k = whole-mapping (right .mapping) (mapping-yes right (b .none)) .processors in
+        (λ i. firstNo (ofEnds (a .strided i) (b .strided i) q m))
+        ∙ sym (after-left ∙ asks-on (ofSection right) ends (all-yes (ofSection right) refl (b .none))
+        ∙ (λ i. firstNo (ask 8 (isBelow (k i) q) ∷ ask 8 (isBelow (n i) m) ∷ ofCounts (count left) (count right))))
 
 -- ---- a pair that passed
 
@@ -75,7 +73,7 @@ pub record Passed (left right : Section) (q m : ℤ) (p : Pair) : Type 0 where
   pub left-none : firstNo (ofSection left) ≡ 0
   pub right-none : firstNo (ofSection right) ≡ 0
   pub counts : count left ≡ count right
-  pub pair : p ≡ pairOf (stridedOf left) (stridedOf right) q m
+  pub pair : p ≡ pairOf left right q m
 
 module _ (left right : Section) (q m : ℤ) where
   -- no question is answered no
@@ -92,12 +90,12 @@ module _ (left right : Section) (q m : ℤ) where
     same-count : count left ≡ count right
     same-count = eqb-true (count left) (count right) (on-ends .1 .1 .0)
 
-    fits : Fit (pairOf (stridedOf left) (stridedOf right) q m)
+    fits : Fit (pairOf left right q m)
     unfolding stridedOf layout layoutOf
     fits =
         record {
-          first = record { whole = right; none = on-right .0; section = refl; processor = below-is q (right .mapping .processors) (on-ends .0) .below };
-          second = record { whole = left; none = on-left .0; section = refl; processor = below-is m (left .mapping .processors) (on-ends .1 .0) .below };
+          first = record { whole = right; none = on-right .0; share = refl; processor = below-is q (right .mapping .processors) (on-ends .0) .below };
+          second = record { whole = left; none = on-left .0; share = refl; processor = below-is m (left .mapping .processors) (on-ends .1 .0) .below };
           counts = same-count;
         }
 

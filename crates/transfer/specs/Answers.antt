@@ -5,13 +5,13 @@ use mathlib.Core.List.{List}
 use lib.Dec.{leb}
 use lib.IntN.{ℤ}
 use lib.ListN.{length}
-use Rattle.model.specs.declared.Section.{Section}
+use Rattle.model.specs.Mappings.{Section}
 use Rattle.model.specs.Transfers.{Lists, TransferCall, TransferAnswer, withEntries}
+use Rattle.section.specs.Shares.{addressBy}
 use Rattle.transfer.specs.declared.questions.Pair.{Pair}
 use Rattle.transfer.specs.declared.listing.Transferred.{Transferred}
 use Rattle.transfer.specs.declared.listing.Transferred.the-variants.{Entries, Needs, Refused}
 use Rattle.transfer.specs.Pairs.{places}
-use Rattle.transfer.specs.Walks.{addressIn}
 
 abbrev pub listsOf : List ℕ → List ℕ → List ℕ → Lists
 listsOf positions sent received = record { positions = positions; sent = sent; received = received }
@@ -39,7 +39,7 @@ listedIn p x = let n = length (rising p) in cond (hasRoom n x) (Entries n) (Need
 
 -- its entries, at the front of each list
 abbrev pub risingLists : Pair → Lists → Lists
-risingLists p x = withEntries (rising p) (addressIn (p .sender .section)) (addressIn (p .receiver .section)) x
+risingLists p x = withEntries (rising p) (addressBy (p .sender)) (addressBy (p .receiver)) x
 
 abbrev pub listsIn : Pair → Lists → Lists
 listsIn p x = cond (hasRoom (length (rising p)) x) (risingLists p x) x

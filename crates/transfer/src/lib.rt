@@ -2,6 +2,7 @@
 // with both addresses. questions.rt puts the questions, walk.rt walks along the sender's or the
 // receiver's elements, whichever are fewer, and listing.rt writes what is found.
 ghost use mathlib.Core.Path.{_≡_};
+ghost use Rattle.model.specs.Mappings.{sectionWith};
 ghost use Rattle.model.specs.Transfers.{transfers, listsAfter};
 ghost use Rattle.transfer.specs.Answers.{callOf, transferredAs, listsOf};
 use listing::Transferred;
@@ -15,10 +16,13 @@ mod questions;
 mod walk;
 
 // The entries of the pair in rising section position: positions, sender's addresses and
-// receiver's addresses in three lists.
+// receiver's addresses in three lists. Each side's sizes are those of its template, if that is a
+// GEN_BLOCK one.
 pub fn transfers(
     left: Section,
+    left_sizes: &[u8],
     right: Section,
+    right_sizes: &[u8],
     sender: i64,
     receiver: i64,
     positions: &mut [u32],
@@ -26,13 +30,13 @@ pub fn transfers(
     received: &mut [u32],
 ) -> Transferred
     ensures { λ r. ⌜ transferredAs r
-        ≡ transfers (callOf left right sender receiver
+        ≡ transfers (callOf (sectionWith left (now («left_sizes» .entry))) (sectionWith right (now («right_sizes» .entry))) sender receiver
         (listsOf (now (positions .entry)) (now (sent .entry)) (now (received .entry)))) ⌝ }
     ensures { λ r. ⌜ listsOf (now (positions .exit)) (now (sent .exit)) (now (received .exit))
-        ≡ listsAfter (callOf left right sender receiver
+        ≡ listsAfter (callOf (sectionWith left (now («left_sizes» .entry))) (sectionWith right (now («right_sizes» .entry))) sender receiver
         (listsOf (now (positions .entry)) (now (sent .entry)) (now (received .entry)))) ⌝ }
 {
-    match ask_pair(left, right, sender, receiver) {
+    match ask_pair(left, left_sizes, right, right_sizes, sender, receiver) {
         Paired::By(p) => list_pair(p, positions, sent, received),
         Paired::Refused(q) => Transferred::Refused(q),
     }

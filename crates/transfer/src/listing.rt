@@ -3,16 +3,17 @@ ghost use mathlib.Core.Path.{_≡_};
 ghost use mathlib.Core.List.{map};
 ghost use lib.ListN.{take};
 ghost use Rattle.model.specs.Transfers.{fronted};
+ghost use Rattle.section.specs.Shares.{addressBy};
 ghost use Rattle.transfer.specs.Pairs.{Fit};
-ghost use Rattle.transfer.specs.Walks.{addressIn, Addressable};
+ghost use Rattle.transfer.specs.Walks.{Addressable};
 ghost use Rattle.transfer.specs.Answers.{listsOf, listedIn, listsIn};
 use crate::questions::Pair;
 use crate::walk::count_along;
 use crate::walk::walk_of;
 use crate::walk::write_along;
 use model::Position;
-use section::positions::address_at;
-use section::questions::Strided;
+use section::shares::Share;
+use section::shares::address_of;
 
 // How many entries the pair has; or, where a list is too short, how many are needed; or the
 // number of another question that was answered no.
@@ -28,15 +29,15 @@ fn wide(x: u32) -> u64
     x as u64
 }
 
-// The addresses of the first n positions, at the front of a list.
-fn write_addresses(x: Strided, positions: &[u32], n: usize, list: &mut [u32])
-    requires { ⌜ Addressable x (now positions) n (now list) ⌝ }
-    ensures { λ r. ⌜ now (list .exit) ≡ fronted (map (addressIn x) (take n (now (positions .entry)))) (now (list .entry)) ⌝ }
+// The share's addresses of the first n positions, at the front of a list.
+fn write_addresses(s: Share, positions: &[u32], n: usize, list: &mut [u32])
+    requires { ⌜ Addressable s (now positions) n (now list) ⌝ }
+    ensures { λ r. ⌜ now (list .exit) ≡ fronted (map (addressBy s) (take n (now (positions .entry)))) (now (list .entry)) ⌝ }
 {
     let mut i: usize = 0;
     while i < n {
         let t = Position(wide(positions[i]));
-        list[i] = address_at(x, t).0 as u32;
+        list[i] = address_of(s, t).0 as u32;
         i += 1;
     }
 }
@@ -67,9 +68,7 @@ pub(crate) fn list_pair(
     write_along(w, positions);
     let s = p.sender;
     let r = p.receiver;
-    let right = s.section;
-    let left = r.section;
-    write_addresses(right, positions, n, sent);
-    write_addresses(left, positions, n, received);
+    write_addresses(s, positions, n, sent);
+    write_addresses(r, positions, n, received);
     Transferred::Entries(n)
 }

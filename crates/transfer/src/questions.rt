@@ -1,19 +1,16 @@
 // The questions of a pair up to 12, on whatever numbers a caller passes, and the pair that
 // passes them.
 ghost use mathlib.Core.Path.{_≡_};
-ghost use Rattle.transfer.specs.Pairs.{refusalIn, endsAsked, pairAsked};
-use mapping::questions::natural;
+ghost use Rattle.model.specs.Mappings.{sectionWith};
+ghost use Rattle.model.specs.Questions.{firstNo};
+ghost use Rattle.transfer.specs.Pairs.{refusalIn, ofEnds, pairAsked};
 use model::Section;
 use section::questions::Asked;
 use section::questions::Strided;
 use section::questions::ask_section;
 use section::questions::is_processor;
-
-// A processor's share of an accepted section.
-pub struct Share {
-    pub section: Strided,
-    pub processor: u64,
-}
+use section::shares::Share;
+use section::shares::share_of;
 
 // The sender's share of the right section, and the receiver's of the left.
 pub struct Pair {
@@ -37,46 +34,54 @@ fn refusal_of(a: Asked) -> u32
     }
 }
 
-// Question 8 for the sender and for the receiver, and question 12.
-fn ends_asked(left: Strided, right: Strided, sender: i64, receiver: i64) -> Paired
-    ensures { λ r. ⌜ r ≡ endsAsked left right sender receiver ⌝ }
+// Question 8 for the sender and for the receiver, and question 12: the number of the first
+// that is answered no, or 0.
+fn ends_refusal(left: Strided, right: Strided, sender: i64, receiver: i64) -> u32
+    ensures { λ r. ⌜ r ≡ firstNo (ofEnds left right sender receiver) ⌝ }
 {
     let to = left.layout;
     let from = right.layout;
     if !is_processor(from, sender) {
-        return Paired::Refused(8);
+        return 8;
     }
     if !is_processor(to, receiver) {
-        return Paired::Refused(8);
+        return 8;
     }
     if left.count != right.count {
-        return Paired::Refused(12);
+        return 12;
     }
-    let s = Share {
-        section: right,
-        processor: natural(sender),
-    };
-    let r = Share {
-        section: left,
-        processor: natural(receiver),
-    };
-    Paired::By(Pair {
-        sender: s,
-        receiver: r,
-    })
+    0
 }
 
 // The left's questions come first.
-pub fn ask_pair(left: Section, right: Section, sender: i64, receiver: i64) -> Paired
-    ensures { λ r. ⌜ r ≡ pairAsked left right sender receiver ⌝ }
+pub fn ask_pair(
+    left: Section,
+    left_sizes: &[u8],
+    right: Section,
+    right_sizes: &[u8],
+    sender: i64,
+    receiver: i64,
+) -> Paired
+    ensures { λ r. ⌜ r ≡ pairAsked (sectionWith left (now («left_sizes» .entry))) (sectionWith right (now («right_sizes» .entry))) sender receiver ⌝ }
 {
-    let a = ask_section(left);
-    let b = ask_section(right);
+    let a = ask_section(left, left_sizes);
+    let b = ask_section(right, right_sizes);
     let Asked::By(x) = a else {
         return Paired::Refused(refusal_of(a));
     };
     let Asked::By(y) = b else {
         return Paired::Refused(refusal_of(b));
     };
-    ends_asked(x, y, sender, receiver)
+    let q = ends_refusal(x, y, sender, receiver);
+    if q != 0 {
+        return Paired::Refused(q);
+    }
+    let to = left.mapping;
+    let from = right.mapping;
+    let left_dealing = to.dealing;
+    let right_dealing = from.dealing;
+    Paired::By(Pair {
+        sender: share_of(y, right_dealing, right_sizes, sender),
+        receiver: share_of(x, left_dealing, left_sizes, receiver),
+    })
 }

@@ -4,17 +4,16 @@ ghost use mathlib.Core.Path.{_≡_};
 ghost use Prim.Native.Nat.{_≤_};
 ghost use lib.ListN.{length};
 ghost use Rattle.model.specs.Transfers.{fronted};
-ghost use Rattle.section.specs.Going.{nextIn};
-ghost use Rattle.transfer.specs.Pairs.{Meets, Fit, mine, places};
-ghost use Rattle.transfer.specs.Walks.{Along, At};
+ghost use Rattle.transfer.specs.Pairs.{Meets, Fit, places};
+ghost use Rattle.transfer.specs.Walks.{Along};
 use crate::questions::Pair;
-use crate::questions::Share;
 use model::Position;
 use model::Steps;
-use section::elements::elements_of;
-use section::going::next_place;
-use section::place::place_of;
-use section::positions::owned_at;
+use section::shares::Share;
+use section::shares::elements_in;
+use section::shares::first_of;
+use section::shares::next_of;
+use section::shares::owns_at;
 use section::steps::steps_of;
 
 // The share that is walked, by its steps from its first place, and the one that is tested.
@@ -25,16 +24,17 @@ pub struct Walk {
     pub first: Position,
 }
 
+// Steps are found once. Along a run none are looked at, so that those of blocks do for both.
 fn walk_by(walked: Share, tested: Share) -> Walk
     requires { ⌜ Meets walked tested ⌝ }
     ensures { λ r. ⌜ Along r × (r .walked ≡ walked) × (r .tested ≡ tested) ⌝ }
 {
-    let x = walked.section;
+    let w = walked.section;
     Walk {
-        walked: walked,
-        tested: tested,
-        steps: steps_of(x),
-        first: place_of(x, walked.processor),
+        walked,
+        tested,
+        steps: steps_of(w),
+        first: first_of(walked),
     }
 }
 
@@ -45,33 +45,10 @@ pub fn walk_of(p: Pair) -> Walk
 {
     let s = p.sender;
     let r = p.receiver;
-    let right = s.section;
-    let left = r.section;
-    if elements_of(right, s.processor) <= elements_of(left, r.processor) {
+    if elements_in(s) <= elements_in(r) {
         return walk_by(s, r);
     }
     walk_by(r, s)
-}
-
-// The next place of the share that is walked.
-fn next_along(w: Walk, t: Position) -> Position
-    requires { ⌜ At w (t .0) ⌝ }
-    ensures { λ r. ⌜ r .0 ≡ nextIn (w .walked .section) (t .0) ⌝ }
-{
-    let walked = w.walked;
-    let x = walked.section;
-    let steps = w.steps;
-    next_place(x, steps, t)
-}
-
-// Is a position in the share that is tested?
-fn is_shared(w: Walk, t: Position) -> bool
-    requires { ⌜ At w (t .0) ⌝ }
-    ensures { λ r. ⌜ r ≡ mine (w .tested) (t .0) ⌝ }
-{
-    let tested = w.tested;
-    let y = tested.section;
-    owned_at(y, tested.processor, t)
 }
 
 // How many positions there are.
@@ -79,13 +56,16 @@ pub fn count_along(w: Walk) -> usize
     requires { ⌜ Along w ⌝ }
     ensures { λ r. ⌜ r ≡ length (places (w .walked) (w .tested)) ⌝ }
 {
-    let count = w.walked.section.count;
+    let walked = w.walked;
+    let tested = w.tested;
+    let steps = w.steps;
+    let count = walked.section.count;
     let mut t = w.first;
     let mut n: usize = 0;
     while t.0 < count {
         let here = t;
-        t = next_along(w, here);
-        if is_shared(w, here) {
+        t = next_of(walked, steps, here);
+        if owns_at(tested, here) {
             n += 1;
         }
     }
@@ -97,13 +77,16 @@ pub fn write_along(w: Walk, list: &mut [u32])
     requires { ⌜ Along w × (length (places (w .walked) (w .tested)) ≤ length (now list)) ⌝ }
     ensures { λ r. ⌜ now (list .exit) ≡ fronted (places (w .walked) (w .tested)) (now (list .entry)) ⌝ }
 {
-    let count = w.walked.section.count;
+    let walked = w.walked;
+    let tested = w.tested;
+    let steps = w.steps;
+    let count = walked.section.count;
     let mut t = w.first;
     let mut at: usize = 0;
     while t.0 < count {
         let here = t;
-        t = next_along(w, here);
-        if is_shared(w, here) {
+        t = next_of(walked, steps, here);
+        if owns_at(tested, here) {
             list[at] = here.0 as u32;
             at += 1;
         }

@@ -14,7 +14,7 @@ ghost use Rattle.walk.specs.Bursts.{Starts, Bursts, Bursted, Short, Befo
 ghost use Rattle.walk.specs.Driving.{FillsBytes};
 
 // An address stored as entry n.
-pub(crate) fn put_entry(list: &mut [u8], n: usize, x: u32)
+pub fn put_entry(list: &mut [u8], n: usize, x: u32)
     requires { ⌜ n < length (now list) / 4 ⌝ }
     ensures { λ r. ⌜ now (list .exit) ≡ storeEntry (now (list .entry)) n x ⌝ }
 {

@@ -3,8 +3,10 @@ use mathlib.Core.Path.{sym, ap, subst, _∙_}
 use borrow.Author.Needs.{needs}
 use mir.Syntax.{w64}
 use mir.ValLaws.{toZ-ofZ}
+use Rattle.model.specs.Mappings.{mappingWith}
+use Rattle.mapping.specs.Parts.{ownerFor}
 use Rattle.mapping.specs.Answers.{Sound, refusalIn, notCounted, localCountIn}
-use Rattle.mapping.proofs.CallLaws.{local-count-refused, local-count-by}
+use Rattle.mapping.proofs.CallLaws.{listed-by, local-count-refused, local-count-by}
 use Rattle.mapping.proofs.local_count.Statement.{statement}
 use Rattle.mapping.proofs.local_count.Tie as tie
 
@@ -24,21 +26,26 @@ returns : tie.Need-returns
 returns c =
     let told = c .before .enum-told .given in
     let asked = c .before .before .before in
-    let s = asked .before in
+    let s = asked .before .before in
     ap notCounted (c .refusal-of .ensures ∙ ap refusalIn (told .1))
-    ∙ local-count-refused (s .args .m) _ (sym (asked .ask-mapping .ensures .0) ∙ told .1) (s .args .processor)
+    ∙ local-count-refused (mappingWith (s .args .m) (s .args .sizes .now)) _ (sym (asked .ask-mapping .ensures .0) ∙ told .1) (s .args .processor)
 
 counted-in-requires : tie.Need-counted-in-requires
-counted-in-requires c κs = subst Sound (c .before .asked .given .1) (c .before .before .before .ask-mapping .ensures .1) .0
+counted-in-requires c κs =
+    let known = c .before .asked .given in
+    let asked = c .before .before .before in
+    let m = mappingWith (asked .before .before .args .m) (asked .before .before .args .sizes .now) in
+    (subst Sound (known .1) (asked .ask-mapping .ensures .1) .0, listed-by m _ _ (sym (asked .ask-mapping .ensures .0) ∙ known .1))
 
 returns-2 : tie.Need-returns-2
 returns-2 c =
     let known = c .before .before .asked .given in
     let asked = c .before .before .before .before in
-    let s = asked .before in
+    let s = asked .before .before in
+    let m = mappingWith (s .args .m) (s .args .sizes .now) in
     c .counted-in .ensures
-    ∙ (λ i. localCountIn (known .0 .0) (toZ-ofZ w64 (s .args .processor) (s .fits .processor) i))
-    ∙ local-count-by (s .args .m) _ _ (sym (asked .ask-mapping .ensures .0) ∙ known .1) (s .args .processor)
+    ∙ (λ i. localCountIn (ownerFor (known .0 .0) (m .dealing)) (known .0 .0) (toZ-ofZ w64 (s .args .processor) (s .fits .processor) i))
+    ∙ local-count-by m _ _ (sym (asked .ask-mapping .ensures .0) ∙ known .1) (s .args .processor)
 
 pub local-count-spec : {M : Type 1} → statement M
 local-count-spec =

@@ -2,7 +2,6 @@
 use Prim.Native.Nat.{_<_}
 use mathlib.Core.Path.{_≡_, sym, ap, _∙_}
 use mathlib.Core.Bool.{true}
-use native.Mathlib.Nat.{le-of-lt}
 use native.Mathlib.Omega.{arith}
 use borrow.Author.Needs.{needs}
 use borrow.Author.Tests.{not-true, not-false}
@@ -11,7 +10,7 @@ use mir.Syntax.{w64}
 use mir.Val.{SFits}
 use mir.ValLaws.{toZ-ofZ, toZ-pos}
 use Rattle.numbers.proofs.Signed.{small-fits, back, fits-as, back-as}
-use Rattle.model.specs.Ownership.{nat, ownerOf}
+use Rattle.model.specs.Ownership.{nat}
 use Rattle.model.specs.Questions.{between}
 use Rattle.model.proofs.BoundLaws.{within-from}
 use Rattle.model.proofs.QuestionLaws.{Below, below-is}
@@ -20,25 +19,25 @@ use Rattle.mapping.proofs.owned_in.Statement.{statement}
 use Rattle.mapping.proofs.owned_in.Tie as tie
 
 cast-last-of : tie.Need-cast-last-of
-cast-last-of c = let s = c .before in small-fits w64 (pos (s .args .l .size)) (omega (arith, s .pre .0 .size-high))
+cast-last-of c = let s = c .before .before in small-fits w64 (pos (s .args .l .size)) (omega (arith, s .pre .0 .0 .size-high))
 
 last-of-requires : tie.Need-last-of-requires
 last-of-requires c κs =
-    let s = c .before in
-    rw (toZ-ofZ w64 (s .args .lower) (s .fits .lower), toZ-pos w64 (s .args .l .size) (omega (arith, s .pre .0 .size-high)))
-    (s .pre .1, s .pre .0 .size-high)
+    let s = c .before .before in
+    rw (toZ-ofZ w64 (s .args .lower) (s .fits .lower), toZ-pos w64 (s .args .l .size) (omega (arith, s .pre .0 .0 .size-high)))
+    (s .pre .0 .1, s .pre .0 .0 .size-high)
 
 within-requires : tie.Need-within-requires
 within-requires c κs = search needs
 
 -- the answer to question 9
 asked : (c : tie.After-within)
-    → let s : tie.Start = c .before .before .before in c .within .result ≡ between (s .args .lower) (s .args .lower +ℤ pos (s .args .l .size) -ℤ pos 1) (s .args .index)
+    → let s : tie.Start = c .before .before .before .before in c .within .result ≡ between (s .args .lower) (s .args .lower +ℤ pos (s .args .l .size) -ℤ pos 1) (s .args .index)
 asked c =
-    let s = c .before .before .before in
+    let s = c .before .before .before .before in
     let j = toZ-ofZ w64 (s .args .index) (s .fits .index) in
     let l = toZ-ofZ w64 (s .args .lower) (s .fits .lower) in
-    let n = toZ-pos w64 (s .args .l .size) (omega (arith, s .pre .0 .size-high)) in
+    let n = toZ-pos w64 (s .args .l .size) (omega (arith, s .pre .0 .0 .size-high)) in
     let r = toZ-ofZ w64 (c .before .last-of .result) (record { sfits = c .before .last-of .ok }) ∙ c .before .last-of .ensures in
     c .within .ensures ∙ (λ i. between (l i) (r i) (j i)) ∙ (λ i. between (s .args .lower) (l i +ℤ n i -ℤ pos 1) (s .args .index))
 
@@ -48,7 +47,7 @@ returns c = rw (sym (asked (c .before)) ∙ not-true _ (c .if1 .taken))
 
 module _ (c : tie.Else1) where
   abbrev start : tie.Start
-  start = c .before .before .before .before
+  start = c .before .before .before .before .before
 
   is-index : between (start .args .lower) (start .args .lower +ℤ pos (start .args .l .size) -ℤ pos 1) (start .args .index) ≡ true
   is-index = sym (asked (c .before)) ∙ not-false _ (c .if1 .left)
@@ -65,7 +64,7 @@ module _ (c : tie.Else1) where
   taken = λ i. toZ-ofZ w64 (start .args .index) (start .fits .index) i -ℤ toZ-ofZ w64 (start .args .lower) (start .fits .lower) i
 
   from-fits : SFits w64 from
-  from-fits = small-fits w64 from (omega (arith, ap natAbs (inside .whole), inside .below, start .pre .0 .size-high))
+  from-fits = small-fits w64 from (omega (arith, ap natAbs (inside .whole), inside .below, start .pre .0 .0 .size-high))
 
 sub-natural : tie.Need-sub-natural
 sub-natural c = fits-as w64 (taken c) (from-fits c)
@@ -79,20 +78,15 @@ counted c = c .natural .ensures ∙ ap nat (back-as w64 (taken (c .before)) (fro
 index-lt : (c : tie.After-natural) → c .natural .result < start (c .before) .args .l .size
 index-lt c = omega (arith, counted c, inside (c .before) .below)
 
-cell-of-requires : tie.Need-cell-of-requires
-cell-of-requires c κs = (start (c .before) .pre .0, (le-of-lt (index-lt c), omega (arith, index-lt c)))
-
-owner-of-requires : tie.Need-owner-of-requires
-owner-of-requires c κs = search needs
-
-local-address-requires : tie.Need-local-address-requires
-local-address-requires c κs = let n = c .before .before in (start (n .before) .pre .0, index-lt n)
+home-of-requires : tie.Need-home-of-requires
+home-of-requires c κs = let s = start (c .before) in (s .pre .1, s .pre .0 .0, index-lt c)
 
 returns-2 : tie.Need-returns-2
-unfolding ownershipIn ownerOf
+unfolding ownershipIn
 returns-2 c =
-    let n = c .before .before .before in
-    rw (is-index (n .before)) (cc (c .before .owner-of .ensures, c .before .before .cell-of .ensures, c .local-address .ensures, counted n))
+    let home = c .before in
+    let n = home .before in
+    rw (is-index (n .before)) (cc (home .home-of .ensures .0, home .home-of .ensures .1, counted n))
 
 pub owned-in-spec : {M : Type 1} → statement M
 owned-in-spec =
@@ -104,7 +98,5 @@ owned-in-spec =
     returns
     sub-natural
     natural-requires
-    cell-of-requires
-    owner-of-requires
-    local-address-requires
+    home-of-requires
     returns-2)

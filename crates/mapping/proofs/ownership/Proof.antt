@@ -3,9 +3,11 @@ use mathlib.Core.Path.{sym, ap, subst, _∙_}
 use borrow.Author.Needs.{needs}
 use mir.Syntax.{w64}
 use mir.ValLaws.{toZ-ofZ}
+use Rattle.model.specs.Mappings.{mappingWith}
+use Rattle.mapping.specs.Parts.{ownerFor}
 use Rattle.mapping.specs.Answers.{Sound, refusalIn, noOwner, ownershipIn}
 use Rattle.mapping.proofs.Signs.{bound-read}
-use Rattle.mapping.proofs.CallLaws.{ownership-refused, ownership-by}
+use Rattle.mapping.proofs.CallLaws.{listed-by, ownership-refused, ownership-by}
 use Rattle.mapping.proofs.ownership.Statement.{statement}
 use Rattle.mapping.proofs.ownership.Tie as tie
 
@@ -25,26 +27,29 @@ returns : tie.Need-returns
 returns c =
     let told = c .before .enum-told .given in
     let asked = c .before .before .before in
-    let s = asked .before in
+    let s = asked .before .before in
     ap noOwner (c .refusal-of .ensures ∙ ap refusalIn (told .1))
-    ∙ ownership-refused (s .args .m) _ (sym (asked .ask-mapping .ensures .0) ∙ told .1) (s .args .index)
+    ∙ ownership-refused (mappingWith (s .args .m) (s .args .sizes .now)) _ (sym (asked .ask-mapping .ensures .0) ∙ told .1) (s .args .index)
 
 owned-in-requires : tie.Need-owned-in-requires
 owned-in-requires c κs =
     let known = c .before .asked .given in
     let sound = subst Sound (known .1) (c .before .before .before .ask-mapping .ensures .1) in
-    rw (bound-read (known .0 .1 .0) (sound .1)) sound
+    let asked = c .before .before .before in
+    let m = mappingWith (asked .before .before .args .m) (asked .before .before .args .sizes .now) in
+    (rw (bound-read (known .0 .1 .0) (sound .1)) sound, listed-by m _ _ (sym (asked .ask-mapping .ensures .0) ∙ known .1))
 
 returns-2 : tie.Need-returns-2
 returns-2 c =
     let known = c .before .before .asked .given in
     let asked = c .before .before .before .before in
-    let s = asked .before in
+    let s = asked .before .before in
+    let m = mappingWith (s .args .m) (s .args .sizes .now) in
     let sound = subst Sound (known .1) (asked .ask-mapping .ensures .1) in
     let lower = bound-read (known .0 .1 .0) (sound .1) in
     c .owned-in .ensures
-    ∙ (λ i. ownershipIn (known .0 .0) (lower i) (toZ-ofZ w64 (s .args .index) (s .fits .index) i))
-    ∙ ownership-by (s .args .m) _ _ (sym (asked .ask-mapping .ensures .0) ∙ known .1) (s .args .index)
+    ∙ (λ i. ownershipIn (ownerFor (known .0 .0) (m .dealing)) (known .0 .0) (lower i) (toZ-ofZ w64 (s .args .index) (s .fits .index) i))
+    ∙ ownership-by m _ _ (sym (asked .ask-mapping .ensures .0) ∙ known .1) (s .args .index)
 
 pub ownership-spec : {M : Type 1} → statement M
 ownership-spec =

@@ -3,8 +3,9 @@ use mathlib.Core.Path.{sym, ap, _∙_, subst}
 use borrow.Author.Needs.{needs}
 use mir.Syntax.{w64}
 use mir.ValLaws.{toZ-ofZ}
+use Rattle.model.specs.Mappings.{sectionWith}
 use Rattle.section.specs.Answers.{Sound, firstPlaceIn}
-use Rattle.section.proofs.CallAnswers.{place-by, place-refused}
+use Rattle.section.proofs.CallAnswers.{listed, place-by, place-refused}
 use Rattle.section.proofs.first_place.Statement.{statement}
 use Rattle.section.proofs.first_place.Tie as tie
 
@@ -16,7 +17,12 @@ enum-known-w c = search needs
 
 placed-in-requires : tie.Need-placed-in-requires
 placed-in-requires c κs =
-    let arm = c .before in subst Sound (arm .w .given .1) (arm .before .before .ask-section .ensures .1)
+    let arm = c .before in
+    let asked = arm .before .before in
+    let s : tie.Start = asked .before .before .before in (
+      subst Sound (arm .w .given .1) (asked .ask-section .ensures .1),
+      listed (sectionWith (s .args .x) (s .args .sizes .now)) _ (sym (asked .ask-section .ensures .0) ∙ arm .w .given .1),
+    )
 
 enum-known-q : tie.Need-enum-known-q
 enum-known-q c = search needs
@@ -25,17 +31,18 @@ returns : tie.Need-returns
 returns c =
     let arm = c .before .before in
     let asked = arm .before .before in
-    let s = asked .before in
+    let s : tie.Start = asked .before .before .before in
     let w = arm .w .given .0 .0 in
-    c .placed-in .ensures ∙ ap (firstPlaceIn w) (toZ-ofZ w64 (s .args .processor) (s .fits .processor))
-    ∙ place-by (s .args .x) (s .args .processor) w (sym (asked .ask-section .ensures .0) ∙ arm .w .given .1)
+    let x = sectionWith (s .args .x) (s .args .sizes .now) in
+    c .placed-in .ensures ∙ ap (firstPlaceIn w (x .mapping .dealing)) (toZ-ofZ w64 (s .args .processor) (s .fits .processor))
+    ∙ place-by x (s .args .processor) w (sym (asked .ask-section .ensures .0) ∙ arm .w .given .1)
 
 returns-2 : tie.Need-returns-2
 returns-2 c =
     let arm = c .before in
     let asked = arm .before .before in
-    let s = asked .before in
-    place-refused (s .args .x) (s .args .processor) (arm .q .given .0 .0) (sym (asked .ask-section .ensures .0) ∙ arm .q .given .1)
+    let s : tie.Start = asked .before .before .before in
+    place-refused (sectionWith (s .args .x) (s .args .sizes .now)) (s .args .processor) (arm .q .given .0 .0) (sym (asked .ask-section .ensures .0) ∙ arm .q .given .1)
 
 pub first-place-spec : {M : Type 1} → statement M
 first-place-spec =

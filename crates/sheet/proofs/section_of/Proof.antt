@@ -57,12 +57,12 @@ same x (n, (a, (b, (c, (d, (e, u)))))) =
 returns : tie.Need-returns
 unfolding sectionIn
 returns c =
-    let template = c .before .before .before .row3 in
-    let array = c .before .before .before .before .row2 in
-    let section = c .before .before .before .before .before .row in
-    let t = same (template .result) (c .before .before .struct-told .given) ∙ template .ensures in
-    let a = same (array .result) (c .before .struct-told2 .given) ∙ array .ensures in
-    let x = same (section .result) (c .struct-told3 .given) ∙ section .ensures in
+    let template = c .before .before .before .before .row3 in
+    let array = c .before .before .before .before .before .row2 in
+    let section = c .before .before .before .before .before .before .row in
+    let t = same (template .result) (c .before .before .before .struct-told .given) ∙ template .ensures in
+    let a = same (array .result) (c .before .struct-told3 .given) ∙ array .ensures in
+    let x = same (section .result) (c .struct-told4 .given) ∙ section .ensures in
     (λ i. sectionBy (toTemplate (t i)) (toArray (a i)) (toSection (x i))) ∙ rw (array .ensures, section .ensures)
 
 pub section-of-spec : {M : Type 1} → statement M

@@ -1,6 +1,7 @@
 -- `copy_by` meets its contract.
 use Prim.Native.Nat.{ℕ}
 use mathlib.Core.Path.{sym, ap, subst, _∙_}
+use Rattle.model.specs.Mappings.{mappingWith}
 use Rattle.model.specs.Checkpoints.{CopyAnswer}
 use Rattle.mapping.specs.Answers.{Sound, refusalIn}
 use Rattle.storage.specs.Answers.{copiedAs}
@@ -25,10 +26,11 @@ returns : tie.Need-returns
 returns c =
     let told = c .before .enum-told .given in
     let asked = c .before .before .before in
-    let s = asked .before .before .before in
+    let s = asked .before .before .before .before in
+    let m = mappingWith (s .args .m) (s .args .sizes .now) in
     let by = sym (asked .ask-mapping .ensures .0) ∙ told .1 in (
-      ap refused (c .refusal-of .ensures ∙ ap refusalIn (told .1)) ∙ answer-refused (s .args .m) (s .args .from .now) (s .args .to .now) _ by,
-      written-refused (s .args .m) (s .args .from .now) (s .args .to .now) _ by (s .args .loading),
+      ap refused (c .refusal-of .ensures ∙ ap refusalIn (told .1)) ∙ answer-refused m (s .args .from .now) (s .args .to .now) _ by,
+      written-refused m (s .args .from .now) (s .args .to .now) _ by (s .args .loading),
     )
   where
     refused : ℕ → CopyAnswer
@@ -46,10 +48,12 @@ returns-2 c =
     let copied = c .before .before in
     let known = copied .before .before .before .asked .given in
     let asked = copied .before .before .before .before .before in
-    let s = asked .before .before .before in
+    let s = asked .before .before .before .before in
     let by = sym (asked .ask-mapping .ensures .0) ∙ known .1 in (
-      ap copiedAs (copied .copy-in .ensures .0) ∙ answer-by (s .args .m) (s .args .from .now) (s .args .to .now) _ _ by,
-      copied .copy-in .ensures .1 ∙ written-by (s .args .m) (s .args .from .now) (s .args .to .now) _ _ by (s .args .loading),
+      ap copiedAs (copied .copy-in .ensures .0)
+          ∙ answer-by (mappingWith (s .args .m) (s .args .sizes .now)) (s .args .from .now) (s .args .to .now) _ _ by,
+      copied .copy-in .ensures .1
+          ∙ written-by (s .args .m) (s .args .sizes .now) (s .args .from .now) (s .args .to .now) _ _ by (s .args .loading),
     )
 
 pub copy-by-spec : {M : Type 1} → statement M

@@ -3,6 +3,7 @@ use mathlib.Core.Path.{_≡_, sym, ap, _∙_}
 use borrow.Author.Needs.{needs}
 use mir.Syntax.{w64}
 use mir.ValLaws.{toZ-ofZ}
+use Rattle.model.specs.Mappings.{Section, sectionWith}
 use Rattle.transfer.specs.Pairs.{pairAsked}
 use Rattle.transfer.specs.Answers.{listsOf, transferredAs}
 use Rattle.transfer.proofs.PairAnswers.{pair-fits}
@@ -16,21 +17,30 @@ ask-pair-requires c κs = search needs
 enum-known-p : tie.Need-enum-known-p
 enum-known-p c = search needs
 
+-- the sections with their lists
+abbrev left : tie.Start → Section
+left s = sectionWith (s .args .left) (s .args .left-sizes .now)
+
+abbrev right : tie.Start → Section
+right s = sectionWith (s .args .right) (s .args .right-sizes .now)
+
 -- the answer about the pair that was passed
-answered : (c : tie.After-ask-pair) → let s : tie.Start = c .before .before .before .before in
-    c .ask-pair .result ≡ pairAsked (s .args .left) (s .args .right) (s .args .sender) (s .args .receiver)
+abbrev start : tie.After-ask-pair → tie.Start
+start c = c .before .before .before .before .before .before
+
+answered : (c : tie.After-ask-pair) → let s = start c in
+    c .ask-pair .result ≡ pairAsked (left s) (right s) (s .args .sender) (s .args .receiver)
 answered c =
-    let s = c .before .before .before .before in
+    let s = start c in
     c .ask-pair .ensures
-    ∙ (λ i.
-    pairAsked (s .args .left) (s .args .right) (toZ-ofZ w64 (s .args .sender) (s .fits .sender) i)
-    (toZ-ofZ w64 (s .args .receiver) (s .fits .receiver) i))
+    ∙ (λ i. pairAsked (left s) (right s) (toZ-ofZ w64 (s .args .sender) (s .fits .sender) i) (toZ-ofZ w64 (s .args .receiver) (s .fits .receiver) i))
 
 list-pair-requires : tie.Need-list-pair-requires
 list-pair-requires c κs =
-    let arm = c .before .before .before .before in
-    let s = arm .before .before .before .before .before .before in
-    pair-fits (s .args .left) (s .args .right) (s .args .sender) (s .args .receiver) _ (sym (answered (arm .before .before)) ∙ arm .p .given .1)
+    let arm : tie.After-p = c .before .before .before .before in
+    let asked = arm .before .before in
+    let s = start asked in
+    pair-fits (left s) (right s) (s .args .sender) (s .args .receiver) _ (sym (answered asked) ∙ arm .p .given .1)
 
 enum-known-q : tie.Need-enum-known-q
 enum-known-q c = search needs
@@ -46,23 +56,25 @@ same-length-3 c = search needs
 
 returns : tie.Need-returns
 returns c =
-    let listed = c .before .before .before .before .before .before in
-    let arm = listed .before .before .before .before .before in
-    let s = arm .before .before .before .before .before .before in
+    let listed : tie.After-list-pair = c .before .before .before .before .before .before in
+    let arm : tie.After-p = listed .before .before .before .before .before in
+    let asked = arm .before .before in
+    let s = start asked in
     let x = listsOf (s .args .positions .now) (s .args .sent .now) (s .args .received .now) in
-    let by = sym (answered (arm .before .before)) ∙ arm .p .given .1 in (
-      ap transferredAs (listed .list-pair .ensures .0) ∙ answer-by (s .args .left) (s .args .right) (s .args .sender) (s .args .receiver) x _ by,
-      listed .list-pair .ensures .1 ∙ lists-by (s .args .left) (s .args .right) (s .args .sender) (s .args .receiver) x _ by,
+    let by = sym (answered asked) ∙ arm .p .given .1 in (
+      ap transferredAs (listed .list-pair .ensures .0) ∙ answer-by (left s) (right s) (s .args .sender) (s .args .receiver) x _ by,
+      listed .list-pair .ensures .1 ∙ lists-by (left s) (right s) (s .args .sender) (s .args .receiver) x _ by,
     )
 
 returns-2 : tie.Need-returns-2
 returns-2 c =
-    let arm = c .before in
-    let s = arm .before .before .before .before .before .before in
+    let arm : tie.After-q = c .before in
+    let asked = arm .before .before in
+    let s = start asked in
     let x = listsOf (s .args .positions .now) (s .args .sent .now) (s .args .received .now) in
-    let by = sym (answered (arm .before .before)) ∙ arm .q .given .1 in (
-      answer-refused (s .args .left) (s .args .right) (s .args .sender) (s .args .receiver) x _ by,
-      lists-refused (s .args .left) (s .args .right) (s .args .sender) (s .args .receiver) x _ by,
+    let by = sym (answered asked) ∙ arm .q .given .1 in (
+      answer-refused (left s) (right s) (s .args .sender) (s .args .receiver) x _ by,
+      lists-refused (left s) (right s) (s .args .sender) (s .args .receiver) x _ by,
     )
 
 pub transfers-spec : {M : Type 1} → statement M

@@ -3,7 +3,9 @@ use mathlib.Core.Path.{sym, _∙_, subst}
 use borrow.Author.Needs.{needs}
 use mir.Syntax.{w64}
 use mir.ValLaws.{toZ-ofZ}
+use Rattle.model.specs.Mappings.{sectionWith}
 use Rattle.section.specs.Answers.{Sound}
+use Rattle.section.proofs.CallAnswers.{listed}
 use Rattle.fill.specs.Ready.{readyIn}
 use Rattle.fill.proofs.ReadyLaws.{ready-by, ready-refused}
 use Rattle.fill.proofs.ready.ask_fill.Statement.{statement}
@@ -17,7 +19,12 @@ enum-known-w c = search needs
 
 ready-in-requires : tie.Need-ready-in-requires
 ready-in-requires c κs =
-    let arm = c .before in subst Sound (arm .w .given .1) (arm .before .before .ask-section .ensures .1)
+    let arm = c .before in
+    let asked = arm .before .before in
+    let s : tie.Start = asked .before .before .before in (
+      subst Sound (arm .w .given .1) (asked .ask-section .ensures .1),
+      listed (sectionWith (s .args .x) (s .args .sizes .now)) _ (sym (asked .ask-section .ensures .0) ∙ arm .w .given .1),
+    )
 
 enum-known-e : tie.Need-enum-known-e
 enum-known-e c = search needs
@@ -26,13 +33,14 @@ returns : tie.Need-returns
 returns c =
     let arm = c .before .before in
     let asked = arm .before .before in
-    let s = asked .before in
+    let s : tie.Start = asked .before .before .before in
+    let x = sectionWith (s .args .x) (s .args .sizes .now) in
     let w = arm .w .given .0 .0 in
     let q = toZ-ofZ w64 (s .args .processor) (s .fits .processor) in
     let t = toZ-ofZ w64 (s .args .place) (s .fits .place) in
     let z = toZ-ofZ w64 (s .args .quota) (s .fits .quota) in (
-      c .ready-in .ensures .0 ∙ (λ i. readyIn w (q i) (t i) (z i))
-          ∙ ready-by (s .args .x) (s .args .processor) (s .args .place) (s .args .quota) w (sym (asked .ask-section .ensures .0) ∙ arm .w .given .1),
+      c .ready-in .ensures .0 ∙ (λ i. readyIn w (x .mapping .dealing) (q i) (t i) (z i))
+          ∙ ready-by x (s .args .processor) (s .args .place) (s .args .quota) w (sym (asked .ask-section .ensures .0) ∙ arm .w .given .1),
       c .ready-in .ensures .1,
     )
 
@@ -40,9 +48,9 @@ returns-2 : tie.Need-returns-2
 returns-2 c =
     let arm = c .before in
     let asked = arm .before .before in
-    let s = asked .before in
+    let s : tie.Start = asked .before .before .before in
     let e = arm .e .given .0 .0 in (
-      ready-refused (s .args .x) (s .args .processor) (s .args .place) (s .args .quota) e (sym (asked .ask-section .ensures .0) ∙ arm .e .given .1),
+      ready-refused (sectionWith (s .args .x) (s .args .sizes .now)) (s .args .processor) (s .args .place) (s .args .quota) e (sym (asked .ask-section .ensures .0) ∙ arm .e .given .1),
       subst Sound (arm .e .given .1) (asked .ask-section .ensures .1),
     )
 

@@ -9,7 +9,7 @@ use mir.Syntax.{w64}
 use mir.ValLaws.{toZ-ofZ}
 use Rattle.numbers.proofs.Signed.{read-of, fails-le}
 use Rattle.model.specs.Ownership.{nat}
-use Rattle.section.specs.Strides.{ownedAt}
+use Rattle.section.specs.Shares.{ownedBy}
 use Rattle.fill.proofs.ReadyLaws.{negative-no, count-yes, past-no, position-owned}
 use Rattle.fill.proofs.ready.is_place.Statement.{statement}
 use Rattle.fill.proofs.ready.is_place.Tie as tie
@@ -17,7 +17,7 @@ use Rattle.fill.proofs.ready.is_place.Tie as tie
 returns : tie.Need-returns
 returns c =
     let s = c .before in
-    negative-no (s .args .w) (s .args .q) (s .args .place) (rw (toZ-ofZ w64 (s .args .place) (s .fits .place)) at (c .if1 .taken))
+    negative-no (s .args .s) (s .args .place) (rw (toZ-ofZ w64 (s .args .place) (s .fits .place)) at (c .if1 .taken))
 
 natural-requires : tie.Need-natural-requires
 natural-requires c κs = search needs
@@ -35,26 +35,28 @@ module _ (c : tie.After-natural) where
 
 returns-2 : tie.Need-returns-2
 returns-2 c =
-    let n = c .before .before in
+    let n = c .before in
     let a = start n .args in
-    count-yes (a .w) (a .q) (a .place) (is-natural n) (omega (arith, position n))
+    count-yes (a .s) (a .place) (is-natural n) (omega (arith, position n))
 
 returns-3 : tie.Need-returns-3
 returns-3 c =
-    let n = c .before .before .before .before in
+    let n = c .before .before in
     let a = start n .args in
-    past-no (a .w) (a .q) (a .place) (is-natural n) (omega (arith, position n))
+    past-no (a .s) (a .place) (is-natural n) (omega (arith, position n))
 
-owned-at-requires : tie.Need-owned-at-requires
-owned-at-requires c κs = record { bounded = c .before .before .before .before .before .before .pre; below = omega (arith, c .if3 .left) }
+owns-at-requires : tie.Need-owns-at-requires
+owns-at-requires c κs =
+    let s : tie.Start = c .before .before .before .before in
+    record { fitted = s .pre; below = omega (arith, c .if3 .left) }
 
 returns-4 : tie.Need-returns-4
 returns-4 c =
-    let n = c .before .before .before .before .before in
+    let n = c .before .before .before in
     let a = start n .args in
-    c .owned-at .ensures ∙ ap (ownedAt (a .w) (a .q)) (position n)
-    ∙ position-owned (a .w) (a .q) (a .place) (is-natural n) (omega (arith, position n))
+    c .owns-at .ensures ∙ ap (ownedBy (a .s)) (position n)
+    ∙ position-owned (a .s) (a .place) (is-natural n) (omega (arith, position n))
 
 pub is-place-spec : {M : Type 1} → statement M
 is-place-spec =
-    tie.close (tie.spec returns natural-requires returns-2 returns-3 owned-at-requires returns-4)
+    tie.close (tie.spec returns natural-requires returns-2 returns-3 owns-at-requires returns-4)

@@ -8,10 +8,10 @@ use Rattle.fill.proofs.words.fill_from.Statement.{statement}
 use Rattle.fill.proofs.words.fill_from.Tie as tie
 
 abbrev Inv-loop : tie.InvT-loop
-Inv-loop s list₀ w place₀ paid₀ n₀ list place paid n = Chunked s list₀ list place paid n
+Inv-loop s list₀ w extent place₀ paid₀ n₀ list place paid n = Chunked s list₀ list place paid n
 
 abbrev μ-loop : tie.MeasureT-loop
-μ-loop s list₀ w place₀ paid₀ n₀ list place paid n = length list₀ - n
+μ-loop s list₀ w extent place₀ paid₀ n₀ list place paid n = length list₀ - n
 
 -- the loop's locals before a chunk
 abbrev loop : tie.After-chunk-end Inv-loop μ-loop → tie.At-loop Inv-loop μ-loop
@@ -26,14 +26,16 @@ loop-holds c = let s = c .before .before .before in chunks-start (s .pre) (s .ar
 sub-if2 : tie.Need-sub-if2 Inv-loop μ-loop
 sub-if2 c = let b = c .before .before .before .before .before in bounds (start b .pre) (b .loop .inv) .0
 
-sub-t12 : tie.Need-sub-t12 Inv-loop μ-loop
-sub-t12 c = let b = c .before .before .before .before .before .before .before in bounds (start b .pre) (b .loop .inv) .0
+sub-t13 : tie.Need-sub-t13 Inv-loop μ-loop
+sub-t13 c = let b = c .before .before .before .before .before .before .before in bounds (start b .pre) (b .loop .inv) .0
 
 chunk-end-requires : tie.Need-chunk-end-requires Inv-loop μ-loop
 chunk-end-requires c κs = search needs
 
 mul-fill-chunk : tie.Need-mul-fill-chunk Inv-loop μ-loop
-mul-fill-chunk c = search needs
+mul-fill-chunk c =
+    let b = loop c in
+    omega (arith, c .before .before .before .before .before .before .before .loop-test .taken, b .loop .inv .same, start b .good .1 .0 .0)
 
 sub-fill-chunk : tie.Need-sub-fill-chunk Inv-loop μ-loop
 sub-fill-chunk c = search needs
@@ -114,7 +116,7 @@ fill-from-spec =
     μ-loop
     loop-holds
     sub-if2
-    sub-t12
+    sub-t13
     chunk-end-requires
     mul-fill-chunk
     sub-fill-chunk

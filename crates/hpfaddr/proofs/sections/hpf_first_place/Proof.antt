@@ -1,66 +1,40 @@
--- `hpf_first_place` meets its contract: the place that `first_place` answers fits its field.
-use mathlib.Core.Path.{_≡_, sym, ap, _∙_}
-use native.Mathlib.Omega.{arith}
+-- `hpf_first_place` meets its contract: what `placed_of` promises, of the parameters.
+use mathlib.Core.Path.{_∙_}
+use mathlib.Core.List.{[]}
 use borrow.Author.Needs.{needs}
 use mir.Syntax.{w64}
 use mir.ValLaws.{toZ-ofZ}
-use Rattle.model.specs.declared.Section.{Section}
-use Rattle.model.specs.Calls.{PlaceAnswer, firstPlaceAt}
-use Rattle.section.specs.Answers.{placedAs}
-use Rattle.hpfaddr.specs.Fields.{sectionFrom}
-use Rattle.hpfaddr.specs.Sizes.{PlacedFits}
-use Rattle.hpfaddr.proofs.AnswerSizes.{with-size, first-place-small}
-use Rattle.hpfaddr.proofs.ParameterLaws.{section-read}
+use Rattle.model.specs.Calls.{firstPlaceAt}
+use Rattle.hpfaddr.proofs.ParameterLaws.{mapping-read, section-read, cyclic-read}
 use Rattle.hpfaddr.proofs.sections.hpf_first_place.Statement.{statement}
 use Rattle.hpfaddr.proofs.sections.hpf_first_place.Tie as tie
+
+mapping-of-requires : tie.Need-mapping-of-requires
+mapping-of-requires c κs = search needs
 
 section-of-requires : tie.Need-section-of-requires
 section-of-requires c κs = search needs
 
-first-place-requires : tie.Need-first-place-requires
-first-place-requires c κs = search needs
+slice-aggregate-placed-of : tie.Need-slice-aggregate-placed-of
+slice-aggregate-placed-of c = search needs
 
-abbrev section : tie.Start → Section
-section s =
-    sectionFrom (s .args .cells) (s .args .processors) (s .args .block) (s .args .stride) (s .args .offset) (s .args .size) (s .args .array-lower) (s .args .template-lower) (s .args .lower) (s .args .upper) (s .args .step)
-
--- the answer, of the parameters
-answer : (c : tie.After-first-place) → let s : tie.Start = c .before .before in placedAs (c .first-place .result) ≡ firstPlaceAt (section s) (s .args .processor)
-answer c =
-    let s = c .before .before in
-    let x : c .before .section-of .result ≡ section s =
-    section-read _ _ _ _ _ _ _ _ _ _ _ (s .fits .cells) (s .fits .processors) (s .fits .block) (s .fits .stride) (s .fits .offset) (s .fits .size) (s .fits .array-lower) (s .fits .template-lower) (s .fits .lower) (s .fits .upper) (s .fits .step) (c .before .section-of .ensures) in
-    c .first-place .ensures ∙ (λ i. firstPlaceAt (x i) (toZ-ofZ w64 (s .args .processor) (s .fits .processor) i))
-
-enum-known-t : tie.Need-enum-known-t
-enum-known-t c = search needs
-
-placed : (c : tie.After-t) → let s : tie.Start = c .before .before .before .before in
-    let a : PlaceAnswer = record { refusal = 0; place = c .t .given .0 .0 .0 } in
-    (a ≡ firstPlaceAt (section s) (s .args .processor)) × PlacedFits a
-placed c = with-size PlacedFits (sym (ap placedAs (c .t .given .1)) ∙ answer (c .before .before)) (first-place-small _ _)
-
-cast-t18 : tie.Need-cast-t18
-cast-t18 c = record { fits = omega (arith, placed (c .before .before) .1) }
-
-enum-known-e : tie.Need-enum-known-e
-enum-known-e c = search needs
+placed-of-requires : tie.Need-placed-of-requires
+placed-of-requires c κs = search needs
 
 returns : tie.Need-returns
-returns c = placed (c .before .before)
-
-returns-2 : tie.Need-returns-2
-returns-2 c =
-    with-size PlacedFits (sym (ap placedAs (c .before .e .given .1)) ∙ answer (c .before .before .before)) (first-place-small _ _)
+returns c =
+    let done = c in
+    let put = done .before .before in
+    let made = put .before in
+    let s : tie.Start = made .before in
+    (done .placed-of .ensures .0 ∙ (λ i. firstPlaceAt ((section-read [] _ _ _ (s .fits .lower) (s .fits .upper) (s .fits .step) (mapping-read _ _ _ _ _ _ _ (s .fits .cells) (s .fits .processors) (s .fits .stride) (s .fits .offset) (s .fits .size) (s .fits .array-lower) (s .fits .template-lower) [] (cyclic-read _ (s .fits .block) []) (made .mapping-of .ensures)) (put .section-of .ensures)) i) (toZ-ofZ w64 (s .args .processor) (s .fits .processor) i)), done .placed-of .ensures .1)
 
 pub hpf-first-place-spec : {M : Type 1} → statement M
 hpf-first-place-spec =
     tie.close
     (tie.spec
+    mapping-of-requires
     section-of-requires
-    first-place-requires
-    enum-known-t
-    cast-t18
-    enum-known-e
-    returns
-    returns-2)
+    slice-aggregate-placed-of
+    placed-of-requires
+    returns)

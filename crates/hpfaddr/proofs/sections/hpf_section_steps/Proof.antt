@@ -1,98 +1,38 @@
--- `hpf_section_steps` meets its contract: each case of `section_steps` has its fields, and its numbers fit them.
-use mathlib.Core.Path.{_≡_, sym, ap, _∙_}
+-- `hpf_section_steps` meets its contract: what `steps_of` promises, of the parameters.
+use mathlib.Core.Path.{ap, _∙_}
+use mathlib.Core.List.{[]}
 use borrow.Author.Needs.{needs}
-use Rattle.model.specs.declared.Section.{Section}
-use Rattle.model.specs.Calls.{SectionStepsAnswer, sectionSteps}
-use Rattle.section.specs.declared.report.SectionSteps.{SectionSteps}
-use Rattle.section.specs.Answers.{stepsAs}
-use Rattle.hpfaddr.specs.Fields.{sectionFrom}
-use Rattle.hpfaddr.specs.Sizes.{StepsFit}
-use Rattle.hpfaddr.proofs.AnswerSizes.{with-size, section-steps-small}
-use Rattle.hpfaddr.proofs.ParameterLaws.{section-read}
+use Rattle.model.specs.Calls.{sectionSteps}
+use Rattle.hpfaddr.proofs.ParameterLaws.{mapping-read, section-read, cyclic-read}
 use Rattle.hpfaddr.proofs.sections.hpf_section_steps.Statement.{statement}
 use Rattle.hpfaddr.proofs.sections.hpf_section_steps.Tie as tie
+
+mapping-of-requires : tie.Need-mapping-of-requires
+mapping-of-requires c κs = search needs
 
 section-of-requires : tie.Need-section-of-requires
 section-of-requires c κs = search needs
 
-section-steps-requires : tie.Need-section-steps-requires
-section-steps-requires c κs = search needs
+slice-aggregate-steps-of : tie.Need-slice-aggregate-steps-of
+slice-aggregate-steps-of c = search needs
 
-abbrev section : tie.Start → Section
-section s =
-    sectionFrom (s .args .cells) (s .args .processors) (s .args .block) (s .args .stride) (s .args .offset) (s .args .size) (s .args .array-lower) (s .args .template-lower) (s .args .lower) (s .args .upper) (s .args .step)
-
--- the answer, of the parameters
-answer : (c : tie.After-section-steps) → stepsAs (c .section-steps .result) ≡ sectionSteps (section (c .before .before))
-answer c =
-    let s = c .before .before in
-    c .section-steps .ensures
-    ∙ ap sectionSteps (section-read _ _ _ _ _ _ _ _ _ _ _ (s .fits .cells) (s .fits .processors) (s .fits .block) (s .fits .stride) (s .fits .offset) (s .fits .size) (s .fits .array-lower) (s .fits .template-lower) (s .fits .lower) (s .fits .upper) (s .fits .step) (c .before .section-of .ensures))
-
--- the fields of each case
-met : (c : tie.After-section-steps) (r : SectionSteps) {a : SectionStepsAnswer} → a ≡ stepsAs r → c .section-steps .result ≡ r
-    → (a ≡ sectionSteps (section (c .before .before))) × StepsFit a
-met c r e is = with-size StepsFit (e ∙ sym (ap stepsAs is) ∙ answer c) (section-steps-small _)
-
-enum-known-n : tie.Need-enum-known-n
-enum-known-n c = search needs
-
-no-step-requires : tie.Need-no-step-requires
-no-step-requires c κs = search needs
-
-enum-known-n-2 : tie.Need-enum-known-n-2
-enum-known-n-2 c = search needs
-
-step-fields-requires : tie.Need-step-fields-requires
-step-fields-requires c κs = search needs
-
-enum-known-n-3 : tie.Need-enum-known-n-3
-enum-known-n-3 c = search needs
-
-step-fields-requires-2 : tie.Need-step-fields-requires-2
-step-fields-requires-2 c κs = search needs
-
-enum-known-e : tie.Need-enum-known-e
-enum-known-e c = search needs
-
-no-step-requires-2 : tie.Need-no-step-requires-2
-no-step-requires-2 c κs = search needs
+steps-of-requires : tie.Need-steps-of-requires
+steps-of-requires c κs = search needs
 
 returns : tie.Need-returns
 returns c =
-    let arm = c .before .before in
-    met (arm .before .before) _ (c .no-step .ensures) (arm .n .given .1)
-
-returns-2 : tie.Need-returns-2
-returns-2 c =
-    let arm = c .before .before in
-    met (arm .before .before) _ (c .step-fields .ensures) (arm .n2 .given .1)
-
-returns-3 : tie.Need-returns-3
-returns-3 c =
-    let arm = c .before .before in
-    met (arm .before .before) _ (c .step-fields2 .ensures) (arm .n3 .given .1)
-
-returns-4 : tie.Need-returns-4
-returns-4 c =
-    let arm = c .before .before in
-    met (arm .before .before) _ (c .no-step2 .ensures) (arm .e .given .1)
+    let done = c in
+    let put = done .before .before in
+    let made = put .before in
+    let s : tie.Start = made .before in
+    (done .steps-of .ensures .0 ∙ ap sectionSteps (section-read [] _ _ _ (s .fits .lower) (s .fits .upper) (s .fits .step) (mapping-read _ _ _ _ _ _ _ (s .fits .cells) (s .fits .processors) (s .fits .stride) (s .fits .offset) (s .fits .size) (s .fits .array-lower) (s .fits .template-lower) [] (cyclic-read _ (s .fits .block) []) (made .mapping-of .ensures)) (put .section-of .ensures)), done .steps-of .ensures .1)
 
 pub hpf-section-steps-spec : {M : Type 1} → statement M
 hpf-section-steps-spec =
     tie.close
     (tie.spec
+    mapping-of-requires
     section-of-requires
-    section-steps-requires
-    enum-known-n
-    no-step-requires
-    enum-known-n-2
-    step-fields-requires
-    enum-known-n-3
-    step-fields-requires-2
-    enum-known-e
-    no-step-requires-2
-    returns
-    returns-2
-    returns-3
-    returns-4)
+    slice-aggregate-steps-of
+    steps-of-requires
+    returns)

@@ -9,7 +9,7 @@ use lib.IntN.{ℤ, pos, natAbs}
 use mir.Syntax.{w64}
 use mir.ValLaws.{toZ-ofZ}
 use Rattle.numbers.proofs.Tests.{both-true}
-use Rattle.model.specs.declared.Mapping.{Mapping}
+use Rattle.model.specs.Mappings.{cyclic, dealingWith, Mapping}
 use Rattle.model.specs.Ownership.{cellUnder, lastIndex, lastCell}
 use Rattle.model.specs.Questions.{AllYes, between, most, least, firstNo, boundsFit, cellsFit}
 use Rattle.model.proofs.QuestionLaws.{between-is, size-is}
@@ -17,31 +17,31 @@ use Rattle.model.proofs.AcceptedLaws.{bounds-of}
 use Rattle.mapping.specs.Answers.{mappingOf, ofDealing}
 use Rattle.mapping.specs.Bounds.{Reached}
 use Rattle.mapping.proofs.Signs.{said-no, said-yes}
-use Rattle.mapping.proofs.Refusals.{dealing-refused, dealing-yes, size-refused, bounds-refused, cells-refused, all-held}
+use Rattle.mapping.proofs.Refusals.{first, dealing-refused, dealing-yes, size-refused, bounds-refused, cells-refused, all-held}
 use Rattle.mapping.proofs.questions.first_refusal.Statement.{statement}
 use Rattle.mapping.proofs.questions.first_refusal.Tie as tie
 
 dealing-refusal-requires : tie.Need-dealing-refusal-requires
 dealing-refusal-requires c κs = search needs
 
--- the answer to questions 1 to 4, of the parameters
-dealing : (c : tie.After-dealing-refusal) → c .dealing-refusal .result ≡ firstNo (ofDealing (c .before .args .t) (c .before .args .p) (c .before .args .k) (c .before .args .a) (c .before .args .b))
-dealing c =
-    let s = c .before in
-    c .dealing-refusal .ensures
-    ∙ (λ i. firstNo (ofDealing (toZ-ofZ w64 (s .args .t) (s .fits .t) i) (toZ-ofZ w64 (s .args .p) (s .fits .p) i) (toZ-ofZ w64 (s .args .k) (s .fits .k) i) (toZ-ofZ w64 (s .args .a) (s .fits .a) i) (toZ-ofZ w64 (s .args .b) (s .fits .b) i)))
-
 abbrev asked : tie.Start → Mapping
-asked s = mappingOf (s .args .t) (s .args .p) (s .args .k) (s .args .a) (s .args .b) (s .args .n) (s .args .lower) (s .args .origin)
+asked s = mappingOf (s .args .t) (s .args .p) (dealingWith (s .args .d) (s .args .sizes .now)) (s .args .a) (s .args .b) (s .args .n) (s .args .lower) (s .args .origin)
+
+-- the answer to questions 1 to 4 and 16, of the parameters
+dealing : (c : tie.After-dealing-refusal) → c .dealing-refusal .result ≡ firstNo (first (asked (c .before .before)))
+dealing c =
+    let s = c .before .before in
+    c .dealing-refusal .ensures
+    ∙ (λ i. firstNo (ofDealing (toZ-ofZ w64 (s .args .t) (s .fits .t) i) (toZ-ofZ w64 (s .args .p) (s .fits .p) i) (dealingWith (s .args .d) (s .args .sizes .now)) (toZ-ofZ w64 (s .args .a) (s .fits .a) i) (toZ-ofZ w64 (s .args .b) (s .fits .b) i)))
 
 returns : tie.Need-returns
 returns c =
-    let s = c .before .before in
+    let s = c .before .before .before in
     let e = dealing (c .before) in
-    e ∙ dealing-refused _ _ _ _ _ (s .args .n) (s .args .lower) (s .args .origin) (λ z. c .if1 .taken (e ∙ z))
+    e ∙ dealing-refused (asked s) (λ z. c .if1 .taken (e ∙ z))
 
 -- questions 1 to 4 hold
-dealt : (c : tie.Else1) → firstNo (ofDealing (c .before .before .args .t) (c .before .before .args .p) (c .before .before .args .k) (c .before .before .args .a) (c .before .before .args .b)) ≡ 0
+dealt : (c : tie.Else1) → firstNo (first (asked (c .before .before .before))) ≡ 0
 dealt c = sym (dealing (c .before)) ∙ c .if1 .left
 
 within-requires : tie.Need-within-requires
@@ -50,12 +50,12 @@ within-requires c κs = search needs
 returns-2 : tie.Need-returns-2
 returns-2 c =
     let e1 = c .before .before in
-    let s = e1 .before .before in
-    size-refused _ _ _ _ _ (s .args .n) (s .args .lower) (s .args .origin) (dealt e1)
+    let s = e1 .before .before .before in
+    size-refused (asked s) (dealt e1)
     (said-no (between (pos 0) most) (s .args .n) (s .fits .n) (c .before .within .ensures) (c .if2 .taken))
 
 abbrev start : tie.Else2 → tie.Start
-start c = c .before .before .before .before
+start c = c .before .before .before .before .before
 
 sized : (c : tie.Else2) → between (pos 0) most (start c .args .n) ≡ true
 sized c =
@@ -66,8 +66,8 @@ natural-small : (low : ℕ) (z : ℤ) → between (pos low) most z ≡ true → 
 natural-small low z e = let w = between-is low 2147483647 z e in omega (arith, w .upto, ap natAbs (w .whole))
 
 module _ (c : tie.Else2) where
-  yes-all : AllYes (ofDealing (start c .args .t) (start c .args .p) (start c .args .k) (start c .args .a) (start c .args .b))
-  yes-all = dealing-yes _ _ _ _ _ (start c .args .n) (start c .args .lower) (start c .args .origin) (dealt (c .before .before))
+  yes-all : AllYes (first (asked (start c)))
+  yes-all = dealing-yes (asked (start c)) (dealt (c .before .before))
 
   size-small : natAbs (start c .args .n) ≤ 2147483647
   size-small = natural-small 0 (start c .args .n) (sized c)
@@ -87,13 +87,13 @@ bounds c =
     let n = toZ-ofZ w64 (s .args .n) (s .fits .n) in
     let l = toZ-ofZ w64 (s .args .lower) (s .fits .lower) in
     let o = toZ-ofZ w64 (s .args .origin) (s .fits .origin) in
-    c .bounds-fit .ensures ∙ (λ i. boundsFit (mappingOf (t i) (pos 1) (pos 1) (pos 1) (pos 0) (n i) (l i) (o i)))
+    c .bounds-fit .ensures ∙ (λ i. boundsFit (mappingOf (t i) (pos 1) (cyclic (pos 1)) (pos 1) (pos 0) (n i) (l i) (o i)))
 
 returns-3 : tie.Need-returns-3
 returns-3 c =
     let e2 = c .before .before in
     let s = start e2 in
-    bounds-refused _ _ _ _ _ (s .args .n) (s .args .lower) (s .args .origin) (dealt (e2 .before .before)) (sized e2)
+    bounds-refused (asked s) (dealt (e2 .before .before)) (sized e2)
     (sym (bounds (c .before)) ∙ not-true _ (c .if3 .taken))
 
 bounded : (c : tie.Else3) → boundsFit (asked (start (c .before .before))) ≡ true
@@ -107,7 +107,7 @@ reached c =
     let e2 = c .before .before in
     let s = start e2 in
     let w = bounds-of (asked s) (bounded c) in
-    let four = both-true (between (pos 1) most (s .args .a)) (between least most (s .args .b)) (yes-all e2 .1 .1 .1 .0) in
+    let four = both-true (between (pos 1) most (s .args .a)) (between least most (s .args .b)) (yes-all e2 .1 .1 .1 .1 .0) in
     record {
       first = record {
         stride = natural-small 1 (s .args .a) (four .0);
@@ -142,14 +142,14 @@ cells c =
     let n = toZ-ofZ w64 (s .args .n) (s .fits .n) in
     let l = toZ-ofZ w64 (s .args .lower) (s .fits .lower) in
     let o = toZ-ofZ w64 (s .args .origin) (s .fits .origin) in
-    c .cells-fit .ensures ∙ (λ i. cellsFit (mappingOf (t i) (pos 1) (pos 1) (a i) (b i) (n i) (l i) (o i)))
+    c .cells-fit .ensures ∙ (λ i. cellsFit (mappingOf (t i) (pos 1) (cyclic (pos 1)) (a i) (b i) (n i) (l i) (o i)))
 
 returns-4 : tie.Need-returns-4
 returns-4 c =
     let e3 = c .before .before in
     let e2 = e3 .before .before in
     let s = start e2 in
-    cells-refused _ _ _ _ _ (s .args .n) (s .args .lower) (s .args .origin) (dealt (e2 .before .before)) (sized e2) (bounded e3)
+    cells-refused (asked s) (dealt (e2 .before .before)) (sized e2) (bounded e3)
     (sym (cells (c .before)) ∙ not-true _ (c .if4 .taken))
 
 returns-5 : tie.Need-returns-5
@@ -157,7 +157,7 @@ returns-5 c =
     let e3 = c .before .before in
     let e2 = e3 .before .before in
     let s = start e2 in
-    all-held _ _ _ _ _ (s .args .n) (s .args .lower) (s .args .origin) (dealt (e2 .before .before)) (sized e2) (bounded e3)
+    all-held (asked s) (dealt (e2 .before .before)) (sized e2) (bounded e3)
     (sym (cells (c .before)) ∙ not-false _ (c .if4 .left))
 
 pub first-refusal-spec : {M : Type 1} → statement M

@@ -1,6 +1,7 @@
 -- `mapped_of` meets its contract.
 use Prim.Native.Nat.{ℕ, _<_}
 use mathlib.Core.Path.{_≡_, refl, sym, ap, _∙_}
+use mathlib.Core.List.{List, []}
 use native.Mathlib.Omega.{arith}
 use borrow.Author.Needs.{needs}
 use borrow.Author.Tests.{eq-eqb, ne-eqb}
@@ -8,9 +9,11 @@ use lib.IntN.{ℤ, natAbs, _+ℤ_, _-ℤ_, _*ℤ_}
 use mir.Syntax.{w64}
 use mir.ValLaws.{toZ-ofZ}
 use Rattle.numbers.proofs.Signed.{read-of}
-use Rattle.model.specs.declared.Mapping.{Mapping}
+use Rattle.model.specs.declared.Dealing as dealt
+use Rattle.model.specs.declared.Dealing.the-variants.{Cyclic, GenBlock}
+use Rattle.model.specs.Mappings.{dealingWith, Mapping}
 use Rattle.model.specs.declared.Layout.{Layout}
-use Rattle.model.specs.Ownership.{nat, cellUnder, layoutOf}
+use Rattle.model.specs.Ownership.{nat, cellUnder, blockIn, layoutOf}
 use Rattle.model.specs.Questions.{firstNo, ofMapping}
 use Rattle.model.proofs.AcceptedLaws.{whole-mapping, bounds-in, offset-small, mapped}
 use Rattle.mapping.specs.declared.questions.Mapped.the-variants.{By, Refused}
@@ -23,27 +26,30 @@ first-refusal-requires : tie.Need-first-refusal-requires
 first-refusal-requires c κs = search needs
 
 abbrev asked : tie.Start → Mapping
-asked s = mappingOf (s .args .t) (s .args .p) (s .args .k) (s .args .a) (s .args .b) (s .args .n) (s .args .lower) (s .args .origin)
+asked s = mappingOf (s .args .t) (s .args .p) (dealingWith (s .args .d) (s .args .sizes .now)) (s .args .a) (s .args .b) (s .args .n) (s .args .lower) (s .args .origin)
 
 -- the first refusal, of the parameters
-first : (c : tie.After-first-refusal) → c .first-refusal .result ≡ firstNo (ofMapping (asked (c .before)))
+first : (c : tie.After-first-refusal) → c .first-refusal .result ≡ firstNo (ofMapping (asked (c .before .before)))
 first c =
-    let s = c .before in
+    let s = c .before .before in
     c .first-refusal .ensures
-    ∙ (λ i. firstNo (ofMapping (mappingOf (toZ-ofZ w64 (s .args .t) (s .fits .t) i) (toZ-ofZ w64 (s .args .p) (s .fits .p) i) (toZ-ofZ w64 (s .args .k) (s .fits .k) i) (toZ-ofZ w64 (s .args .a) (s .fits .a) i) (toZ-ofZ w64 (s .args .b) (s .fits .b) i) (toZ-ofZ w64 (s .args .n) (s .fits .n) i) (toZ-ofZ w64 (s .args .lower) (s .fits .lower) i) (toZ-ofZ w64 (s .args .origin) (s .fits .origin) i))))
+    ∙ (λ i. firstNo (ofMapping (mappingOf (toZ-ofZ w64 (s .args .t) (s .fits .t) i) (toZ-ofZ w64 (s .args .p) (s .fits .p) i) (dealingWith (s .args .d) (s .args .sizes .now)) (toZ-ofZ w64 (s .args .a) (s .fits .a) i) (toZ-ofZ w64 (s .args .b) (s .fits .b) i) (toZ-ofZ w64 (s .args .n) (s .fits .n) i) (toZ-ofZ w64 (s .args .lower) (s .fits .lower) i) (toZ-ofZ w64 (s .args .origin) (s .fits .origin) i))))
 
 refused : (m : Mapping) (q : ℕ) → (q ≡ 0 → ⊥) → q ≡ firstNo (ofMapping m) → (Refused q ≡ mappedOf m) × (0 < q)
 unfolding mappedOf
 refused m q h e = (rw (← e, ne-eqb q 0 h), omega arith)
 
 returns : tie.Need-returns
-returns c = refused (asked (c .before .before)) (c .before .first-refusal .result) (c .if1 .taken) (first (c .before))
+returns c = refused (asked (c .before .before .before)) (c .before .first-refusal .result) (c .if1 .taken) (first (c .before))
 
 natural-requires : tie.Need-natural-requires
 natural-requires c κs = search needs
 
 natural-requires-2 : tie.Need-natural-requires-2
 natural-requires-2 c κs = search needs
+
+block-of-requires : tie.Need-block-of-requires
+block-of-requires c κs = search needs
 
 natural-requires-3 : tie.Need-natural-requires-3
 natural-requires-3 c κs = search needs
@@ -63,7 +69,7 @@ unfolding mappedOf
 accepted m l lower ok e f = rw (e, f, eq-eqb (firstNo (ofMapping m)) 0 ok) (refl, (mapped m ok, bounds-in m ok .lower))
 
 -- nothing was answered no
-none : (c : tie.Else1) → firstNo (ofMapping (asked (c .before .before))) ≡ 0
+none : (c : tie.Else1) → firstNo (ofMapping (asked (c .before .before .before))) ≡ 0
 none c = sym (first (c .before)) ∙ c .if1 .left
 
 aligned : (m : Mapping) → firstNo (ofMapping m) ≡ 0 → Aligned (m .stride) (m .offset) (m .origin) (m .lower)
@@ -76,10 +82,15 @@ aligned m ok =
       index = b .lower;
     }
 
+-- the list has nothing to do with the block
+same-block : (d : dealt.Dealing) (bs cs : List ℕ) → blockIn (dealingWith d bs) ≡ blockIn (dealingWith d cs)
+same-block (Cyclic k) bs cs = refl
+same-block GenBlock bs cs = refl
+
 cell-under-requires : tie.Need-cell-under-requires
 cell-under-requires c κs =
-    let e1 = c .before .before .before .before in
-    let s = e1 .before .before in
+    let e1 = c .before .before .before .before .before in
+    let s = e1 .before .before .before in
     rw (
       toZ-ofZ w64 (s .args .a) (s .fits .a),
       toZ-ofZ w64 (s .args .b) (s .fits .b),
@@ -95,13 +106,16 @@ returns-2 c =
     let cell = n5 .before in
     let n4 = cell .before in
     let n3 = n4 .before in
-    let n2 = n3 .before in
+    let block = n3 .before in
+    let n2 = block .before in
     let n1 = n2 .before in
     let e1 = n1 .before in
-    let s = e1 .before .before in
+    let s = e1 .before .before .before in
     let t = read-of w64 nat (s .args .t) (s .fits .t) (n1 .natural .ensures) in
     let p = read-of w64 nat (s .args .p) (s .fits .p) (n2 .natural2 .ensures) in
-    let k = read-of w64 nat (s .args .k) (s .fits .k) (n3 .natural3 .ensures) in
+    let k =
+    read-of w64 nat (block .block-of .result) (record { sfits = block .block-of .ok }) (n3 .natural3 .ensures)
+    ∙ ap nat (block .block-of .ensures ∙ same-block (s .args .d) [] (s .args .sizes .now)) in
     let a = read-of w64 nat (s .args .a) (s .fits .a) (n4 .natural4 .ensures) in
     let stride = toZ-ofZ w64 (s .args .a) (s .fits .a) in
     let offset = toZ-ofZ w64 (s .args .b) (s .fits .b) in
@@ -123,6 +137,7 @@ mapped-of-spec =
     returns
     natural-requires
     natural-requires-2
+    block-of-requires
     natural-requires-3
     natural-requires-4
     cell-under-requires

@@ -7,15 +7,15 @@ use lib.ListN.{length}
 use Rattle.numbers.specs.Search.{sum}
 use Rattle.model.specs.Sections.{places}
 use Rattle.model.specs.Steps.{cost}
-use Rattle.print.specs.Ahead.{restOf, StandsIn}
+use Rattle.print.specs.Ahead.{listed, restOf, StandsIn}
 use Rattle.print.proofs.WentLaws.{fewer-left, paid-so-far, all-paid, tries-few, none-paid}
 use Rattle.print.proofs.fills.tries_of.Statement.{statement}
 use Rattle.print.proofs.fills.tries_of.Tie as tie
 
 abbrev Inv-loop : tie.InvT-loop
 Inv-loop x q list₀ rest₀ tries₀ list rest tries =
-    (length list ≡ length list₀) × StandsIn (x .section) q rest
-    × (tries + sum (map (cost (x .section)) (restOf (x .section) q rest)) ≡ sum (map (cost (x .section)) (places (x .section) q)))
+    (length list ≡ length list₀) × StandsIn (listed x) q rest
+    × (tries + sum (map (cost (listed x)) (restOf (listed x) q rest)) ≡ sum (map (cost (listed x)) (places (listed x) q)))
 
 abbrev μ-loop : tie.MeasureT-loop
 μ-loop x q list₀ rest₀ tries₀ list rest tries = rest .left
@@ -36,7 +36,7 @@ add-tries c =
     let call = c .before .before .before in
     let loop = call .before .before .before .before in
     let s = loop .before .before .before in
-    let x = s .args .x .section in
+    let x = listed (s .args .x) in
     omega (
       arith,
       paid-so-far x (s .args .q) (call .fill-on .ensures) (loop .loop .tries) _ (loop .loop .inv .2),
@@ -48,7 +48,7 @@ loop-less c =
     let call = c .before .before .before .before in
     let loop = call .before .before .before .before in
     let s = loop .before .before .before in
-    fewer-left (s .args .x .section) (s .args .q) (call .fill-on .ensures) (loop .loop .inv .1) (omega (arith, call .before .before .if1 .taken))
+    fewer-left (listed (s .args .x)) (s .args .q) (call .fill-on .ensures) (loop .loop .inv .1) (omega (arith, call .before .before .if1 .taken))
     (omega (arith, loop .loop .inv .0, s .pre .1))
 
 loop-again : tie.Need-loop-again Inv-loop μ-loop
@@ -59,7 +59,7 @@ loop-again c =
     let v = call .fill-on .ensures in (
       v .same ∙ loop .loop .inv .0,
       v .stands,
-      paid-so-far (s .args .x .section) (s .args .q) v (loop .loop .tries) _ (loop .loop .inv .2),
+      paid-so-far (listed (s .args .x)) (s .args .q) v (loop .loop .tries) _ (loop .loop .inv .2),
     )
 
 same-length : tie.Need-same-length Inv-loop μ-loop
@@ -69,7 +69,7 @@ returns : tie.Need-returns Inv-loop μ-loop
 returns c =
     let loop = c .before .before in
     let s = loop .before .before .before in
-    all-paid (s .args .x .section) (s .args .q) (loop .loop .inv .1) (omega (arith, c .if1 .left)) (loop .loop .tries) _ (loop .loop .inv .2)
+    all-paid (listed (s .args .x)) (s .args .q) (loop .loop .inv .1) (omega (arith, c .if1 .left)) (loop .loop .tries) _ (loop .loop .inv .2)
 
 pub tries-of-spec : {M : Type 1} → statement M
 tries-of-spec =

@@ -7,7 +7,7 @@ use Rattle.model.specs.Ownership.{columnOf}
 use Rattle.model.specs.Steps.{tryBoth}
 use Rattle.section.specs.Answers.{Short}
 use Rattle.section.specs.Going.{onFrom, nextBy, nextIn}
-use Rattle.section.proofs.StepAnswers.{short}
+use Rattle.section.proofs.StepAnswers.{cyclic-short}
 use Rattle.section.proofs.GoingLaws.{Light, light}
 use Rattle.section.proofs.going.next_place.Statement.{statement}
 use Rattle.section.proofs.going.next_place.Tie as tie
@@ -39,7 +39,7 @@ cells-on-requires c κs =
     record {
       column = mod-lt _ (b .sized .block-pos);
       block = b .sized .block-high;
-      moves = subst Short (sym is) (short (s .args .w) b);
+      moves = subst (Short 65536) (sym is) (cyclic-short (s .args .w) b);
       cells = subst Light (sym is) (light (s .args .w) b);
     }
 

@@ -3,7 +3,7 @@ use mathlib.Core.Path.{_≡_, sym, _∙_, subst}
 use borrow.Author.Needs.{needs}
 use mir.Syntax.{w64}
 use mir.ValLaws.{toZ-ofZ}
-use Rattle.model.specs.declared.Section.{Section}
+use Rattle.model.specs.Mappings.{Section, sectionWith}
 use Rattle.mapping.specs.Answers as mapping
 use Rattle.mapping.proofs.Signs.{bound-read}
 use Rattle.section.specs.declared.questions.Asked.{Asked}
@@ -36,22 +36,24 @@ returns c =
     let told = c .before .struct-told3 .given in
     let payload = c .before .before .before .before .before in
     let asked = payload .before .before in
-    let x = asked .before .before .before .args .x in
+    let s = asked .before .before .before .before in
+    let x = sectionWith (s .args .x) (s .args .sizes .now) in
     let known = payload .l .given in
     let sound = subst mapping.Sound (known .1) (asked .ask-mapping .ensures .1) in
     let lower = bound-read (known .0 .1 .0) (sound .1) in
     let l = toZ-ofZ w64 (x .triplet .lower) (record { sfits = told .0 .1 }) in
     let h = toZ-ofZ w64 (x .triplet .upper) (record { sfits = told .1 .0 .1 }) in
-    let s = toZ-ofZ w64 (x .triplet .stride) (record { sfits = told .1 .1 .0 .1 }) in
+    let step = toZ-ofZ w64 (x .triplet .stride) (record { sfits = told .1 .1 .0 .1 }) in
     answered x
-    (c .triplet-asked .ensures ∙ (λ i. askedIn (known .0 .0) (lower i) (l i) (h i) (s i))
+    (c .triplet-asked .ensures ∙ (λ i. askedIn (known .0 .0) (lower i) (l i) (h i) (step i))
     ∙ mapping-accepted x _ _ (sym (asked .ask-mapping .ensures .0) ∙ known .1))
 
 returns-2 : tie.Need-returns-2
 returns-2 c =
     let payload = c .before in
     let asked = payload .before .before in
-    let x = asked .before .before .before .args .x in
+    let s = asked .before .before .before .before in
+    let x = sectionWith (s .args .x) (s .args .sizes .now) in
     answered x (mapping-refused x _ (sym (asked .ask-mapping .ensures .0) ∙ payload .q .given .1))
 
 pub ask-section-spec : {M : Type 1} → statement M

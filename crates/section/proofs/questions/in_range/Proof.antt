@@ -1,24 +1,11 @@
 -- `in_range` meets its contract: each return rewrites by the answers on the way to it.
-use Prim.Native.Nat.{suc}
-use mathlib.Core.Path.{_≡_, refl, sym, _∙_}
+use mathlib.Core.Path.{_≡_}
 use mathlib.Core.Bool.{true}
-use native.Mathlib.Omega.{arith}
 use borrow.Author.Needs.{needs}
-use borrow.Author.Tests.{ne-eqb}
-use lib.Dec.{eqb}
-use lib.IntN.{ℤ, pos, negsuc, natAbs}
-use mir.Syntax.{w64}
-use mir.Val.{SFits, ofZ}
 use Rattle.model.specs.Questions.{between, most, least, inRange}
-use Rattle.mapping.proofs.Signs.{said-no, said-yes}
+use Rattle.mapping.proofs.Signs.{zero-bits, said-no, said-yes}
 use Rattle.section.proofs.questions.in_range.Statement.{statement}
 use Rattle.section.proofs.questions.in_range.Tie as tie
-
--- a test of the bits for 0
-zero-bits : (z : ℤ) → SFits w64 z → eqb (ofZ w64 z) 0 ≡ eqb (natAbs z) 0
-zero-bits (pos n) f = refl
-zero-bits (negsuc n) f =
-    ne-eqb (ofZ w64 (negsuc n)) 0 (λ e. omega (arith, f .sfits)) ∙ sym (ne-eqb (suc n) 0 (λ e. omega arith))
 
 sub-within : tie.Need-sub-within
 sub-within c = search needs

@@ -14,18 +14,18 @@ enum-known-s c = search needs
 
 report-step-requires : tie.Need-report-step-requires
 report-step-requires c κs =
-    let arm = c .before in subst Short (arm .s .given .1) (arm .before .before .pre)
+    let arm = c .before in subst (Short 2147483647) (arm .s .given .1) (arm .before .before .pre)
 
 enum-known-s-2 : tie.Need-enum-known-s-2
 enum-known-s-2 c = search needs
 
 report-step-requires-2 : tie.Need-report-step-requires-2
 report-step-requires-2 c κs =
-    let arm = c .before in subst Short (arm .s2 .given .1) (arm .before .before .pre) .0
+    let arm = c .before in subst (Short 2147483647) (arm .s2 .given .1) (arm .before .before .pre) .0
 
 report-step-requires-3 : tie.Need-report-step-requires-3
 report-step-requires-3 c κs =
-    let arm = c .before .before in subst Short (arm .s2 .given .1) (arm .before .before .pre) .1
+    let arm = c .before .before in subst (Short 2147483647) (arm .s2 .given .1) (arm .before .before .pre) .1
 
 returns : tie.Need-returns
 returns c = ap (stepsReport (c .before .before .args .count)) (sym (c .enum-told .given .1))

@@ -6,7 +6,7 @@ use native.Mathlib.Omega.{arith}
 use Rattle.numbers.proofs.RangeSums.{sum-none}
 use Rattle.model.specs.Ownership.{ownerOf, held}
 use Rattle.model.specs.Storages.{storageStart}
-use Rattle.model.proofs.Demand2Holds.{owner-lt}
+use Rattle.model.proofs.CellOwners.{cyclic-owner-lt}
 use Rattle.model.proofs.StorageLaws.{start-next, start-high}
 use Rattle.storage.specs.Copying.{StartsIn}
 use Rattle.storage.proofs.RowLaws.{starts-none, starts-next}
@@ -32,7 +32,7 @@ start-low c =
     let l = c .before in
     let s = l .before .before in
     let high =
-    start-high (ownerOf (s .args .l)) (s .args .l .processors) (s .args .l .size) (λ i h. owner-lt (s .args .l) (s .pre .0 .processors-pos) i) (l .loop .q)
+    start-high (ownerOf (s .args .l)) (s .args .l .processors) (s .args .l .size) (λ i h. cyclic-owner-lt (s .args .l) (s .pre .0 .processors-pos) i) (l .loop .q)
     (l .loop .inv .0) in
     omega (arith, l .loop .inv .1, high)
 
@@ -61,7 +61,7 @@ next-start c =
     let o = ownerOf (s .args .l) in
     let n = s .args .l .size in (
       rw (add-one (l .loop .q)) (omega (arith, l .loop .inv .1, c .elements-on .ensures, start-next o n (l .loop .q))),
-      start-high o (s .args .l .processors) n (λ i h. owner-lt (s .args .l) (s .pre .0 .processors-pos) i) (l .loop .q + 1)
+      start-high o (s .args .l .processors) n (λ i h. cyclic-owner-lt (s .args .l) (s .pre .0 .processors-pos) i) (l .loop .q + 1)
           (omega (arith, c .before .loop-test .taken)),
     )
 

@@ -1,15 +1,14 @@
 -- `list_pair` meets its contract: a list is too short, or all are written in rising order.
 use Prim.Native.Nat.{ℕ, _≤_, _<_}
-use mathlib.Core.Path.{_≡_, refl, ap, _∙_}
+use mathlib.Core.Path.{_≡_, ap, _∙_}
 use mathlib.Core.List.{List}
 use mathlib.Core.Logic.{inl, inr}
 use native.Mathlib.Omega.{arith}
 use borrow.Author.Needs.{needs}
 use lib.ListN.{length}
 use Rattle.model.specs.Transfers.{Lists, fronted}
-use Rattle.transfer.specs.Walks.{Addressable}
 use Rattle.transfer.specs.Answers.{listsOf, rising}
-use Rattle.transfer.proofs.ListingLaws.{room-yes, room-no, too-short, addressable, all-listed}
+use Rattle.transfer.proofs.ListingLaws.{room-yes, room-no, too-short, of-sender, of-receiver, all-listed}
 use Rattle.transfer.proofs.listing.list_pair.Statement.{statement}
 use Rattle.transfer.proofs.listing.list_pair.Tie as tie
 
@@ -76,28 +75,19 @@ module _ (c : tie.After-write-along) where
   room-3 : n ≤ length (start (count c) .args .received .now)
   room-3 = c .before .before .if3 .left
 
-  -- so either section's addresses of the positions may be written into a list that has room
-  of-sender : (l : List ℕ) → n ≤ length l → Addressable (start (count c) .args .p .sender .section) (c .write-along .last .1 .0) n l
-  unfolding lists
-  of-sender l h =
-      let s = start (count c) in
-      addressable _ (counted (count c)) (lists s) _ (wrote c) (s .args .p .sender) l (s .pre .first) refl room-1 h
-
-  of-receiver : (l : List ℕ) → n ≤ length l → Addressable (start (count c) .args .p .receiver .section) (c .write-along .last .1 .0) n l
-  unfolding lists
-  of-receiver l h =
-      let s = start (count c) in
-      addressable _ (counted (count c)) (lists s) _ (wrote c) (s .args .p .receiver) l (s .pre .second) (s .pre .counts) room-1 h
-
 write-addresses-requires : tie.Need-write-addresses-requires
+unfolding lists
 write-addresses-requires c κs =
-    let w = c .before .before .before .before .before .before .before .before in
-    search (of-sender w, of-receiver w, room-2 w)
+    let w : tie.After-write-along = c .before .before .before .before .before .before in
+    let s = start (count w) in
+    of-sender _ (counted (count w)) (lists s) _ (wrote w) (s .pre) (room-1 w) _ (room-2 w)
 
 write-addresses-requires-2 : tie.Need-write-addresses-requires-2
+unfolding lists
 write-addresses-requires-2 c κs =
-    let w = c .before .before .before .before .before .before .before .before .before .before .before .before .before in
-    search (of-sender w, of-receiver w, room-3 w)
+    let w : tie.After-write-along = c .before .before .before .before .before .before .before .before .before .before .before in
+    let s = start (count w) in
+    of-receiver _ (counted (count w)) (lists s) _ (wrote w) (s .pre) (room-1 w) _ (room-3 w)
 
 same-length : tie.Need-same-length
 same-length c = search needs
@@ -111,9 +101,9 @@ same-length-3 c = search needs
 returns-4 : tie.Need-returns-4
 unfolding lists
 returns-4 c =
-    let sent = c .before .before .before .before .before .before .before in
+    let sent : tie.After-write-addresses = c .before .before .before .before .before .before .before in
     let received = c .before .before in
-    let w = c .before .before .before .before .before .before .before .before .before .before .before .before .before .before .before .before in
+    let w : tie.After-write-along = sent .before .before .before .before .before .before .before in
     let s = start (count w) in
     all-listed _ (counted (count w)) (lists s) _ (wrote w) _ _ (sent .write-addresses .ensures) (received .write-addresses2 .ensures)
     (room-yes _ (lists s) (room-1 w) (room-2 w) (room-3 w))

@@ -2,29 +2,31 @@
 -- is to be. The measure: the positions left.
 use Prim.Native.Nat.{_-_, _≤_, _<_}
 use mathlib.Core.Path.{_≡_, refl, ap, _∙_}
+use mathlib.Core.Bool.{true}
 use mathlib.Core.List.{map}
 use native.Mathlib.Numerals.{add-one}
 use native.Mathlib.Omega.{arith}
 use lib.ListN.{length, take, length-set}
 use Rattle.model.specs.Transfers.{fronted}
-use Rattle.transfer.specs.Walks.{addressIn}
+use Rattle.section.specs.Shares.{addressBy, ownedBy}
 use Rattle.transfer.proofs.FrontLaws.{Front, starts, same-rest, writes, ends}
-use Rattle.transfer.proofs.AddressLists.{left, left-all, left-next, left-none, address-high}
+use Rattle.transfer.proofs.PairLaws.{known, fitted}
+use Rattle.transfer.proofs.AddressLists.{left, left-all, left-next, left-none}
 use Rattle.transfer.proofs.listing.write_addresses.Statement.{statement}
 use Rattle.transfer.proofs.listing.write_addresses.Tie as tie
 
 abbrev Inv-loop : tie.InvT-loop
-Inv-loop x positions n list₀ i₀ list i =
+Inv-loop s positions n list₀ i₀ list i =
     (i ≤ n) × (length list ≡ length list₀)
-    × Front (fronted (map (addressIn x) (take n positions)) list₀) (left x positions n i) list i
+    × Front (fronted (map (addressBy s) (take n positions)) list₀) (left s positions n i) list i
 
 abbrev μ-loop : tie.MeasureT-loop
-μ-loop x positions n list₀ i₀ list i = n - i
+μ-loop s positions n list₀ i₀ list i = n - i
 
 loop-holds : tie.Need-loop-holds Inv-loop μ-loop
 loop-holds c =
     let s = c .before .before in
-    (omega arith, refl, starts _ _ (omega (arith, left-all (s .args .x) (s .args .positions .now) (s .args .n) (s .pre .there), s .pre .room)))
+    (omega arith, refl, starts _ _ (omega (arith, left-all (s .args .s) (s .args .positions .now) (s .args .n) (s .pre .there), s .pre .room)))
 
 mul-wide : tie.Need-mul-wide Inv-loop μ-loop
 mul-wide c =
@@ -37,20 +39,26 @@ wide-requires : tie.Need-wide-requires Inv-loop μ-loop
 wide-requires c κs = tt
 
 -- the position that is read
-below : (c : tie.After-wide Inv-loop μ-loop) → c .wide .result < c .before .before .before .before .before .before .args .x .count
-below c =
+read : (c : tie.After-wide Inv-loop μ-loop) → let s = c .before .before .before .before .before .before in
+    (c .wide .result < s .args .s .section .count) × (ownedBy (s .args .s) (c .wide .result) ≡ true)
+read c =
     let l = c .before .before .before in
-    rw (c .wide .ensures) (l .before .before .before .pre .below (l .loop .i) (c .before .before .loop-test .taken))
+    let s = l .before .before .before in
+    let i = c .before .before .loop-test .taken in
+    rw (c .wide .ensures) (s .pre .below (l .loop .i) i, s .pre .owned (l .loop .i) i)
 
-address-at-requires : tie.Need-address-at-requires Inv-loop μ-loop
-address-at-requires c κs =
-    let s = c .before .before .before .before .before .before in record { bounded = s .pre .bounded; below = below c }
+address-of-requires : tie.Need-address-of-requires Inv-loop μ-loop
+address-of-requires c κs =
+    let s = c .before .before .before .before .before .before in
+    let a = s .pre .accepted in
+    (record { fitted = fitted (s .args .s) a; below = read c .0 }, known (s .args .s) a .based _ (read c .0) (read c .1))
 
 cast-list : tie.Need-cast-list Inv-loop μ-loop
 cast-list c =
     let called = c .before in
     let s = called .before .before .before .before .before .before .before in
-    omega (arith, called .address-at .ensures, address-high (s .args .x) (s .pre .bounded) (called .before .wide .result) (below (called .before)))
+    let r = read (called .before) in
+    omega (arith, called .address-of .ensures, known (s .args .s) (s .pre .accepted) .low _ (r .0) (r .1))
 
 -- there is room for the address
 room : (c : tie.In-loop Inv-loop μ-loop) → c .before .loop .i < length (c .before .loop .list)
@@ -79,8 +87,8 @@ loop-again c =
     let turn = c .before .before .before .before in
     let l = turn .before in
     let s = l .before .before .before in
-    let address = c .before .address-at .ensures ∙ ap (addressIn (s .args .x)) (c .before .before .wide .ensures) in
-    let next = left-next (s .args .x) (s .args .positions .now) (s .args .n) (s .pre .there) (l .loop .i) (turn .loop-test .taken) in (
+    let address = c .before .address-of .ensures ∙ ap (addressBy (s .args .s)) (c .before .before .wide .ensures) in
+    let next = left-next (s .args .s) (s .args .positions .now) (s .args .n) (s .pre .there) (l .loop .i) (turn .loop-test .taken) in (
       omega (arith, turn .loop-test .taken),
       rw length-set (l .loop .inv .1),
       rw (address, add-one) (rw add-one at (writes (same-rest next (l .loop .inv .2)))),
@@ -95,7 +103,7 @@ returns c =
     let s = l .before .before .before in
     let all : l .loop .i ≡ s .args .n = omega (arith, c .loop-test .left, l .loop .inv .0) in
     let ls = s .args .positions .now in
-    let none = ap (left (s .args .x) ls (s .args .n)) all ∙ left-none (s .args .x) ls (s .args .n) (s .pre .there) in
+    let none = ap (left (s .args .s) ls (s .args .n)) all ∙ left-none (s .args .s) ls (s .args .n) (s .pre .there) in
     ends (same-rest none (l .loop .inv .2))
 
 pub write-addresses-spec : {M : Type 1} → statement M
@@ -108,7 +116,7 @@ write-addresses-spec =
     mul-wide
     shared-slice-read-wide
     wide-requires
-    address-at-requires
+    address-of-requires
     cast-list
     mul-list
     slice-write-list

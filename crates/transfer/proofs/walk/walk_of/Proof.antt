@@ -2,19 +2,17 @@
 use mathlib.Core.Path.{_∙_}
 use borrow.Author.Needs.{needs}
 use Rattle.transfer.specs.Pairs.{places}
-use Rattle.transfer.proofs.PairLaws.{share-bounded, meets-turned, places-turned}
+use Rattle.transfer.proofs.PairLaws.{fitted, meets-turned, places-turned}
 use Rattle.transfer.proofs.walk.walk_of.Statement.{statement}
 use Rattle.transfer.proofs.walk.walk_of.Tie as tie
 
-elements-of-requires : tie.Need-elements-of-requires
-elements-of-requires c κs =
-    let s = c .before .before .before .before in
-    let a = s .pre .first in (share-bounded (s .args .p .sender) a, a .processor)
+elements-in-requires : tie.Need-elements-in-requires
+elements-in-requires c κs =
+    let s : tie.Start = c .before .before in fitted (s .args .p .sender) (s .pre .first)
 
-elements-of-requires-2 : tie.Need-elements-of-requires-2
-elements-of-requires-2 c κs =
-    let s = c .before .before .before .before .before in
-    let a = s .pre .second in (share-bounded (s .args .p .receiver) a, a .processor)
+elements-in-requires-2 : tie.Need-elements-in-requires-2
+elements-in-requires-2 c κs =
+    let s : tie.Start = c .before .before .before in fitted (s .args .p .receiver) (s .pre .second)
 
 walk-by-requires : tie.Need-walk-by-requires
 walk-by-requires c κs = search needs
@@ -25,11 +23,12 @@ returns c =
     (e .0, λ i. places (e .1 i) (e .2 i))
 
 walk-by-requires-2 : tie.Need-walk-by-requires-2
-walk-by-requires-2 c κs = let s = c .before .before .before .before .before .before .before in meets-turned _ _ (s .pre)
+walk-by-requires-2 c κs =
+    let s : tie.Start = c .before .before .before .before .before in meets-turned _ _ (s .pre)
 
 returns-2 : tie.Need-returns-2
 returns-2 c =
-    let s = c .before .before .before .before .before .before .before .before in
+    let s : tie.Start = c .before .before .before .before .before .before in
     let e = c .walk-by2 .ensures in
     (e .0, (λ i. places (e .1 i) (e .2 i)) ∙ places-turned (s .args .p .sender) (s .args .p .receiver) (s .pre))
 
@@ -37,8 +36,8 @@ pub walk-of-spec : {M : Type 1} → statement M
 walk-of-spec =
     tie.close
     (tie.spec
-    elements-of-requires
-    elements-of-requires-2
+    elements-in-requires
+    elements-in-requires-2
     walk-by-requires
     returns
     walk-by-requires-2

@@ -1,0 +1,42 @@
+-- `elements_in` meets its contract.
+use mathlib.Core.Path.{sym, ap, _∙_, subst}
+use borrow.Author.Needs.{needs}
+use Rattle.mapping.specs.Parts.{heldIn, Low}
+use Rattle.mapping.proofs.parts.elements_in.Statement.{statement}
+use Rattle.mapping.proofs.parts.elements_in.Tie as tie
+
+enum-told : tie.Need-enum-told
+enum-told c = search needs
+
+elements-on-requires : tie.Need-elements-on-requires
+elements-on-requires c κs = search needs
+
+enum-known-part : tie.Need-enum-known-part
+enum-known-part c = search needs
+
+elements-along-requires : tie.Need-elements-along-requires
+elements-along-requires c κs =
+    let s = c .before .before .before in
+    let low = subst Low (c .before .part .given .1) (s .pre .1) in
+    (s .pre .0 .sized, low .0, low .1)
+
+returns : tie.Need-returns
+returns c =
+    let s = c .before .before .before in
+    c .elements-on .ensures ∙ sym (ap (heldIn (s .args .l) (s .args .q)) (c .before .enum-told .given .1))
+
+returns-2 : tie.Need-returns-2
+returns-2 c =
+    let s = c .before .before .before .before in
+    c .elements-along .ensures ∙ sym (ap (heldIn (s .args .l) (s .args .q)) (c .before .before .part .given .1))
+
+pub elements-in-spec : {M : Type 1} → statement M
+elements-in-spec =
+    tie.close
+    (tie.spec
+    enum-told
+    elements-on-requires
+    enum-known-part
+    elements-along-requires
+    returns
+    returns-2)

@@ -1,13 +1,13 @@
 -- The answers of `mapping`, by cases: the paper's number and values for each. Definitions only.
 use Prim.Native.Nat.{ℕ, _≤_, _<_}
-use mathlib.Core.Bool.{cond, _&&_}
-use mathlib.Core.List.{List, [], _∷_}
+use mathlib.Core.Bool.{Bool, true, cond, _&&_}
+use mathlib.Core.List.{List, [], _∷_, _++_}
 use lib.Dec.{eqb}
 use lib.IntN.{ℤ, pos, natAbs, _+ℤ_, _-ℤ_}
-use Rattle.model.specs.Mappings.{Dealing, Mapping}
+use Rattle.model.specs.Mappings.{Dealing, cyclic, genBlock, Mapping}
 use Rattle.model.specs.declared.Layout.{Layout}
 use Rattle.model.specs.Ownership.{nat, layoutOf, rank, held, backTo}
-use Rattle.model.specs.Questions.{Question, ask, between, isBelow, most, least, blockFits, runsFit, firstNo, ofMapping}
+use Rattle.model.specs.Questions.{Question, ask, between, isBelow, most, least, blockFits, sizesFit, boundsFit, cellsFit, firstNo, ofMapping}
 use Rattle.model.specs.Calls.{OwnershipAnswer, GoingBackAnswer, LocalCountAnswer}
 use Rattle.model.specs.Sized.{Sized}
 use Rattle.mapping.specs.declared.questions.Mapped.{Mapped}
@@ -24,19 +24,26 @@ abbrev pub mappingOf : ℤ → ℤ → Dealing → ℤ → ℤ → ℤ → ℤ �
 mappingOf t p d a b n lower origin =
     record { cells = t; processors = p; dealing = d; stride = a; offset = b; size = n; lower = lower; origin = origin }
 
--- 3 or 16
-abbrev pub ofDealt : ℤ → ℤ → Dealing → List Question
-ofDealt t p d = ask 3 (blockFits d) ∷ ask 16 (runsFit t p d) ∷ []
+-- question 16 before the others: a list is looked through only for a p that passes question 2
+abbrev pub listFits : ℤ → ℤ → Dealing → Bool
+listFits t p (cyclic k) = true
+listFits t p (genBlock sizes left) = between (pos 1) (pos 1024) p && sizesFit t p sizes left
 
--- questions 1 to 4 and 16
-abbrev pub ofDealing : ℤ → ℤ → Dealing → ℤ → ℤ → List Question
-ofDealing t p d a b =
+-- questions 1 to 4 and 16, by the answer to 16
+abbrev pub ofDealing : ℤ → ℤ → Dealing → Bool → ℤ → ℤ → List Question
+ofDealing t p d listed a b =
     ask 1 (between (pos 1) most t)
     ∷ ask 2 (between (pos 1) (pos 1024) p)
     ∷ ask 3 (blockFits d)
-    ∷ ask 16 (runsFit t p d)
+    ∷ ask 16 listed
     ∷ ask 4 (between (pos 1) most a && between least most b)
     ∷ []
+
+-- all of a mapping's questions, by the answer to 16
+abbrev pub ofListed : Bool → Mapping → List Question
+ofListed listed m =
+    ofDealing (m .cells) (m .processors) (m .dealing) listed (m .stride) (m .offset)
+    ++ (ask 5 (between (pos 0) most (m .size)) ∷ ask 15 (boundsFit m) ∷ ask 5 (cellsFit m) ∷ [])
 
 -- the layout and the lower bound of a mapping that passes its questions, or the first question that is answered no
 unfoldable pub mappedOf : Mapping → Mapped

@@ -49,7 +49,8 @@ fn owned_in(l: Layout, lower: i64, d: Dealing, sizes: &[u8], index: i64) -> Owne
 pub fn ownership(m: Mapping, sizes: &[u8], index: i64) -> Owned
     ensures { λ r. ⌜ ownedAs r ≡ ownership (mappingWith m (now (sizes .entry))) index ⌝ }
 {
-    let asked = questions::ask_mapping(m, sizes);
+    let listed = questions::list_fits(m, sizes);
+    let asked = questions::ask_mapping(m, sizes, listed);
     let Mapped::By(l, lower) = asked else {
         return Owned::Refused(questions::refusal_of(asked));
     };
@@ -87,7 +88,8 @@ fn found_in(l: Layout, lower: i64, d: Dealing, sizes: &[u8], processor: i64, add
 pub fn going_back(m: Mapping, sizes: &[u8], processor: i64, address: i64) -> Found
     ensures { λ r. ⌜ foundAs r ≡ goingBack (mappingWith m (now (sizes .entry))) processor address ⌝ }
 {
-    let asked = questions::ask_mapping(m, sizes);
+    let listed = questions::list_fits(m, sizes);
+    let asked = questions::ask_mapping(m, sizes, listed);
     let Mapped::By(l, lower) = asked else {
         return Found::Refused(questions::refusal_of(asked));
     };
@@ -119,7 +121,8 @@ fn counted_in(l: Layout, d: Dealing, sizes: &[u8], processor: i64) -> Counted
 pub fn local_count(m: Mapping, sizes: &[u8], processor: i64) -> Counted
     ensures { λ r. ⌜ countedAs r ≡ localCount (mappingWith m (now (sizes .entry))) processor ⌝ }
 {
-    let asked = questions::ask_mapping(m, sizes);
+    let listed = questions::list_fits(m, sizes);
+    let asked = questions::ask_mapping(m, sizes, listed);
     let Mapped::By(l, _) = asked else {
         return Counted::Refused(questions::refusal_of(asked));
     };

@@ -6,8 +6,8 @@ ghost use Prim.Native.Nat.{_≤_};
 ghost use lib.IntN.{pos, natAbs, _+ℤ_, _-ℤ_, _*ℤ_};
 ghost use Rattle.model.specs.Mappings.{cyclic, dealingWith, mappingWith};
 ghost use Rattle.model.specs.Ownership.{nat, blockIn};
-ghost use Rattle.model.specs.Questions.{between, isBelow, boundsFit, cellsFit, firstNo, ofMapping};
-ghost use Rattle.mapping.specs.Answers.{mappingOf, ofDealt, ofDealing, mappedOf, Sound, refusalIn};
+ghost use Rattle.model.specs.Questions.{between, isBelow, blockFits, boundsFit, cellsFit, firstNo};
+ghost use Rattle.mapping.specs.Answers.{mappingOf, listFits, ofDealing, ofListed, mappedOf, Sound, refusalIn};
 ghost use Rattle.mapping.specs.Bounds.{Aligned, Reached};
 use crate::runs::sizes_fit;
 use model::Dealing;
@@ -47,41 +47,41 @@ pub fn is_below(x: i64, n: u64) -> bool
     (x as u64) < n
 }
 
-// Question 3, of a block.
-fn block_refusal(k: i64) -> u32
-    ensures { λ r. ⌜ r ≡ firstNo (ofDealt (pos 0) (pos 0) (cyclic k)) ⌝ }
-{
-    if !within(1, 65536, k) {
-        return 3;
-    }
-    0
-}
-
-// Question 16, of a list of sizes.
-fn runs_refusal(sizes: &[u8], t: i64, p: i64) -> u32
-    requires { ⌜ natAbs p ≤ 1024 ⌝ }
-    ensures { λ r. ⌜ r ≡ firstNo (ofDealt t p (dealingWith Dealing.GenBlock (now (sizes .entry)))) ⌝ }
-{
-    if !sizes_fit(sizes, natural(p), natural(t)) {
-        return 16;
-    }
-    0
-}
-
-// The one that concerns the dealing.
-fn dealt_refusal(d: Dealing, sizes: &[u8], t: i64, p: i64) -> u32
-    requires { ⌜ natAbs p ≤ 1024 ⌝ }
-    ensures { λ r. ⌜ r ≡ firstNo (ofDealt t p (dealingWith d (now (sizes .entry)))) ⌝ }
+// Question 3, which does not concern a list.
+fn block_fits(d: Dealing) -> bool
+    ensures { λ r. ⌜ r ≡ blockFits (dealingWith d []) ⌝ }
 {
     match d {
-        Dealing::Cyclic(k) => block_refusal(k),
-        Dealing::GenBlock => runs_refusal(sizes, t, p),
+        Dealing::Cyclic(k) => within(1, 65536, k),
+        Dealing::GenBlock => true,
+    }
+}
+
+// Question 16, of a list of sizes and any p.
+fn runs_fit(sizes: &[u8], t: i64, p: i64) -> bool
+    ensures { λ r. ⌜ r ≡ listFits t p (dealingWith Dealing.GenBlock (now (sizes .entry))) ⌝ }
+{
+    if within(1, 1024, p) {
+        return sizes_fit(sizes, natural(p), natural(t));
+    }
+    false
+}
+
+// Question 16, which does not concern a block. It is put before the others, and its answer handed
+// to them: without a list they are short enough for a compiler to put them into each call.
+pub fn list_fits(m: Mapping, sizes: &[u8]) -> bool
+    ensures { λ r. ⌜ r ≡ listFits (m .cells) (m .processors) (dealingWith (m .dealing) (now (sizes .entry))) ⌝ }
+{
+    let d = m.dealing;
+    match d {
+        Dealing::Cyclic(_) => true,
+        Dealing::GenBlock => runs_fit(sizes, m.cells, m.processors),
     }
 }
 
 // The first of questions 1 to 4 and 16 that is answered no, or 0.
-fn dealing_refusal(t: i64, p: i64, d: Dealing, sizes: &[u8], a: i64, b: i64) -> u32
-    ensures { λ r. ⌜ r ≡ firstNo (ofDealing t p (dealingWith d (now (sizes .entry))) a b) ⌝ }
+fn dealing_refusal(t: i64, p: i64, d: Dealing, listed: bool, a: i64, b: i64) -> u32
+    ensures { λ r. ⌜ r ≡ firstNo (ofDealing t p (dealingWith d []) listed a b) ⌝ }
 {
     if !within(1, MOST, t) {
         return 1;
@@ -89,9 +89,11 @@ fn dealing_refusal(t: i64, p: i64, d: Dealing, sizes: &[u8], a: i64, b: i64) -> 
     if !within(1, 1024, p) {
         return 2;
     }
-    let dealt = dealt_refusal(d, sizes, t, p);
-    if dealt != 0 {
-        return dealt;
+    if !block_fits(d) {
+        return 3;
+    }
+    if !listed {
+        return 16;
     }
     if !within(1, MOST, a) {
         return 4;
@@ -159,16 +161,16 @@ fn first_refusal(
     t: i64,
     p: i64,
     d: Dealing,
-    sizes: &[u8],
+    listed: bool,
     a: i64,
     b: i64,
     n: i64,
     lower: i64,
     origin: i64,
 ) -> u32
-    ensures { λ r. ⌜ r ≡ firstNo (ofMapping (mappingOf t p (dealingWith d (now (sizes .entry))) a b n lower origin)) ⌝ }
+    ensures { λ r. ⌜ r ≡ firstNo (ofListed listed (mappingOf t p (dealingWith d []) a b n lower origin)) ⌝ }
 {
-    let dealing = dealing_refusal(t, p, d, sizes, a, b);
+    let dealing = dealing_refusal(t, p, d, listed, a, b);
     if dealing != 0 {
         return dealing;
     }
@@ -206,16 +208,18 @@ fn mapped_of(
     p: i64,
     d: Dealing,
     sizes: &[u8],
+    listed: bool,
     a: i64,
     b: i64,
     n: i64,
     lower: i64,
     origin: i64,
 ) -> Mapped
+    requires { ⌜ listed ≡ listFits t p (dealingWith d (now sizes)) ⌝ }
     ensures { λ r. ⌜ r ≡ mappedOf (mappingOf t p (dealingWith d (now (sizes .entry))) a b n lower origin) ⌝ }
     ensures { λ r. ⌜ Sound r ⌝ }
 {
-    let q = first_refusal(t, p, d, sizes, a, b, n, lower, origin);
+    let q = first_refusal(t, p, d, listed, a, b, n, lower, origin);
     if q != 0 {
         return Mapped::Refused(q);
     }
@@ -230,7 +234,9 @@ fn mapped_of(
     Mapped::By(l, lower)
 }
 
-pub fn ask_mapping(m: Mapping, sizes: &[u8]) -> Mapped
+// The list was looked through before.
+pub fn ask_mapping(m: Mapping, sizes: &[u8], listed: bool) -> Mapped
+    requires { ⌜ listed ≡ listFits (m .cells) (m .processors) (dealingWith (m .dealing) (now sizes)) ⌝ }
     ensures { λ r. ⌜ r ≡ mappedOf (mappingWith m (now (sizes .entry))) ⌝ }
     ensures { λ r. ⌜ Sound r ⌝ }
 {
@@ -240,6 +246,7 @@ pub fn ask_mapping(m: Mapping, sizes: &[u8]) -> Mapped
         m.processors,
         d,
         sizes,
+        listed,
         m.stride,
         m.offset,
         m.size,

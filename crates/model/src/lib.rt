@@ -24,16 +24,18 @@ pub enum Dealing {
 }
 
 // A mapping as a caller passes it: T, p, the dealing, a, b and n of document 01, and the lower
-// bounds that the program declares, the array's (La) and the template's (Lt).
+// bounds that the program declares, the template's (Lt) and the array's (La). The two are not
+// neighbours, as they are among a C function's arguments: copied as one word of 16 bytes they
+// would make the call wait for the stores of each.
 pub struct Mapping {
     pub cells: i64,
     pub processors: i64,
     pub dealing: Dealing,
+    pub origin: i64,
     pub stride: i64,
     pub offset: i64,
     pub size: i64,
     pub lower: i64,
-    pub origin: i64,
 }
 
 // A mapping that passed its questions, as natural numbers: elements count from 0, and the

@@ -13,6 +13,7 @@ use crate::count::size_of;
 use mapping::questions::Mapped;
 use mapping::questions::ask_mapping;
 use mapping::questions::is_below;
+use mapping::questions::list_fits;
 use mapping::questions::natural;
 use mapping::questions::within;
 use model::Layout;
@@ -98,7 +99,8 @@ pub fn ask_section(x: Section, sizes: &[u8]) -> Asked
 {
     let m = x.mapping;
     let t = x.triplet;
-    match ask_mapping(m, sizes) {
+    let listed = list_fits(m, sizes);
+    match ask_mapping(m, sizes, listed) {
         Mapped::By(l, lower) => triplet_asked(l, lower, t.lower, t.upper, t.stride),
         Mapped::Refused(q) => Asked::Refused(q),
     }

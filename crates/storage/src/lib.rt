@@ -11,6 +11,7 @@ ghost use Rattle.storage.specs.Copying.{copiedOn, copiedBy, Roomy};
 ghost use Rattle.storage.specs.Answers.{copiedAs, written, copiedIn, writtenIn};
 use mapping::questions::Mapped;
 use mapping::questions::ask_mapping;
+use mapping::questions::list_fits;
 use mapping::questions::refusal_of;
 use model::Dealing;
 use model::Layout;
@@ -74,7 +75,8 @@ fn copy_by(m: Mapping, sizes: &[u8], loading: bool, from: &[u64], to: &mut [u64]
     ensures { λ r. ⌜ copiedAs r ≡ copying (copyOf (mappingWith m (now (sizes .entry))) (now (from .entry)) (now (to .entry))) ⌝ }
     ensures { λ r. ⌜ now (to .exit) ≡ written loading (copyOf (mappingWith m (now (sizes .entry))) (now (from .entry)) (now (to .entry))) ⌝ }
 {
-    let asked = ask_mapping(m, sizes);
+    let listed = list_fits(m, sizes);
+    let asked = ask_mapping(m, sizes, listed);
     let Mapped::By(l, _) = asked else {
         return Copied::Refused(refusal_of(asked));
     };

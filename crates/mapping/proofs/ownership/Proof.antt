@@ -11,8 +11,11 @@ use Rattle.mapping.proofs.CallLaws.{listed-by, ownership-refused, owner
 use Rattle.mapping.proofs.ownership.Statement.{statement}
 use Rattle.mapping.proofs.ownership.Tie as tie
 
+list-fits-requires : tie.Need-list-fits-requires
+list-fits-requires c κs = search needs
+
 ask-mapping-requires : tie.Need-ask-mapping-requires
-ask-mapping-requires c κs = search needs
+ask-mapping-requires c κs = c .list-fits .ensures
 
 enum-known-asked : tie.Need-enum-known-asked
 enum-known-asked c = search needs
@@ -27,7 +30,7 @@ returns : tie.Need-returns
 returns c =
     let told = c .before .enum-told .given in
     let asked = c .before .before .before in
-    let s = asked .before .before in
+    let s = asked .before .before .before in
     ap noOwner (c .refusal-of .ensures ∙ ap refusalIn (told .1))
     ∙ ownership-refused (mappingWith (s .args .m) (s .args .sizes .now)) _ (sym (asked .ask-mapping .ensures .0) ∙ told .1) (s .args .index)
 
@@ -36,14 +39,14 @@ owned-in-requires c κs =
     let known = c .before .asked .given in
     let sound = subst Sound (known .1) (c .before .before .before .ask-mapping .ensures .1) in
     let asked = c .before .before .before in
-    let m = mappingWith (asked .before .before .args .m) (asked .before .before .args .sizes .now) in
+    let m = mappingWith (asked .before .before .before .args .m) (asked .before .before .before .args .sizes .now) in
     (rw (bound-read (known .0 .1 .0) (sound .1)) sound, listed-by m _ _ (sym (asked .ask-mapping .ensures .0) ∙ known .1))
 
 returns-2 : tie.Need-returns-2
 returns-2 c =
     let known = c .before .before .asked .given in
     let asked = c .before .before .before .before in
-    let s = asked .before .before in
+    let s = asked .before .before .before in
     let m = mappingWith (s .args .m) (s .args .sizes .now) in
     let sound = subst Sound (known .1) (asked .ask-mapping .ensures .1) in
     let lower = bound-read (known .0 .1 .0) (sound .1) in
@@ -55,6 +58,7 @@ pub ownership-spec : {M : Type 1} → statement M
 ownership-spec =
     tie.close
     (tie.spec
+    list-fits-requires
     ask-mapping-requires
     enum-known-asked
     enum-told

@@ -10,8 +10,11 @@ use borrow.Author.Needs.{needs}
 use Rattle.storage.proofs.copy_by.Statement.{statement}
 use Rattle.storage.proofs.copy_by.Tie as tie
 
+list-fits-requires : tie.Need-list-fits-requires
+list-fits-requires c κs = search needs
+
 ask-mapping-requires : tie.Need-ask-mapping-requires
-ask-mapping-requires c κs = search needs
+ask-mapping-requires c κs = c .list-fits .ensures
 
 enum-known-asked : tie.Need-enum-known-asked
 enum-known-asked c = search needs
@@ -26,7 +29,7 @@ returns : tie.Need-returns
 returns c =
     let told = c .before .enum-told .given in
     let asked = c .before .before .before in
-    let s = asked .before .before .before .before in
+    let s = asked .before .before .before .before .before in
     let m = mappingWith (s .args .m) (s .args .sizes .now) in
     let by = sym (asked .ask-mapping .ensures .0) ∙ told .1 in (
       ap refused (c .refusal-of .ensures ∙ ap refusalIn (told .1)) ∙ answer-refused m (s .args .from .now) (s .args .to .now) _ by,
@@ -48,7 +51,7 @@ returns-2 c =
     let copied = c .before .before in
     let known = copied .before .before .before .asked .given in
     let asked = copied .before .before .before .before .before in
-    let s = asked .before .before .before .before in
+    let s = asked .before .before .before .before .before in
     let by = sym (asked .ask-mapping .ensures .0) ∙ known .1 in (
       ap copiedAs (copied .copy-in .ensures .0)
           ∙ answer-by (mappingWith (s .args .m) (s .args .sizes .now)) (s .args .from .now) (s .args .to .now) _ _ by,
@@ -60,6 +63,7 @@ pub copy-by-spec : {M : Type 1} → statement M
 copy-by-spec =
     tie.close
     (tie.spec
+    list-fits-requires
     ask-mapping-requires
     enum-known-asked
     enum-told

@@ -2,6 +2,7 @@
 use Prim.Native.Nat.{ℕ, _≤_}
 use mathlib.Core.Path.{_≡_, sym, ap, _∙_}
 use mathlib.Core.Bool.{true}
+use mathlib.Core.List.{[]}
 use native.Mathlib.Omega.{arith}
 use borrow.Author.Needs.{needs}
 use borrow.Author.Tests.{not-true, not-false}
@@ -25,23 +26,23 @@ dealing-refusal-requires : tie.Need-dealing-refusal-requires
 dealing-refusal-requires c κs = search needs
 
 abbrev asked : tie.Start → Mapping
-asked s = mappingOf (s .args .t) (s .args .p) (dealingWith (s .args .d) (s .args .sizes .now)) (s .args .a) (s .args .b) (s .args .n) (s .args .lower) (s .args .origin)
+asked s = mappingOf (s .args .t) (s .args .p) (dealingWith (s .args .d) []) (s .args .a) (s .args .b) (s .args .n) (s .args .lower) (s .args .origin)
 
 -- the answer to questions 1 to 4 and 16, of the parameters
-dealing : (c : tie.After-dealing-refusal) → c .dealing-refusal .result ≡ firstNo (first (asked (c .before .before)))
+dealing : (c : tie.After-dealing-refusal) → let s : tie.Start = c .before in c .dealing-refusal .result ≡ firstNo (first (s .args .listed) (asked s))
 dealing c =
-    let s = c .before .before in
+    let s = c .before in
     c .dealing-refusal .ensures
-    ∙ (λ i. firstNo (ofDealing (toZ-ofZ w64 (s .args .t) (s .fits .t) i) (toZ-ofZ w64 (s .args .p) (s .fits .p) i) (dealingWith (s .args .d) (s .args .sizes .now)) (toZ-ofZ w64 (s .args .a) (s .fits .a) i) (toZ-ofZ w64 (s .args .b) (s .fits .b) i)))
+    ∙ (λ i. firstNo (ofDealing (toZ-ofZ w64 (s .args .t) (s .fits .t) i) (toZ-ofZ w64 (s .args .p) (s .fits .p) i) (dealingWith (s .args .d) []) (s .args .listed) (toZ-ofZ w64 (s .args .a) (s .fits .a) i) (toZ-ofZ w64 (s .args .b) (s .fits .b) i)))
 
 returns : tie.Need-returns
 returns c =
-    let s = c .before .before .before in
+    let s = c .before .before in
     let e = dealing (c .before) in
-    e ∙ dealing-refused (asked s) (λ z. c .if1 .taken (e ∙ z))
+    e ∙ dealing-refused (s .args .listed) (asked s) (λ z. c .if1 .taken (e ∙ z))
 
 -- questions 1 to 4 hold
-dealt : (c : tie.Else1) → firstNo (first (asked (c .before .before .before))) ≡ 0
+dealt : (c : tie.Else1) → let s : tie.Start = c .before .before in firstNo (first (s .args .listed) (asked s)) ≡ 0
 dealt c = sym (dealing (c .before)) ∙ c .if1 .left
 
 within-requires : tie.Need-within-requires
@@ -50,12 +51,12 @@ within-requires c κs = search needs
 returns-2 : tie.Need-returns-2
 returns-2 c =
     let e1 = c .before .before in
-    let s = e1 .before .before .before in
-    size-refused (asked s) (dealt e1)
+    let s = e1 .before .before in
+    size-refused (s .args .listed) (asked s) (dealt e1)
     (said-no (between (pos 0) most) (s .args .n) (s .fits .n) (c .before .within .ensures) (c .if2 .taken))
 
 abbrev start : tie.Else2 → tie.Start
-start c = c .before .before .before .before .before
+start c = c .before .before .before .before
 
 sized : (c : tie.Else2) → between (pos 0) most (start c .args .n) ≡ true
 sized c =
@@ -66,8 +67,8 @@ natural-small : (low : ℕ) (z : ℤ) → between (pos low) most z ≡ true → 
 natural-small low z e = let w = between-is low 2147483647 z e in omega (arith, w .upto, ap natAbs (w .whole))
 
 module _ (c : tie.Else2) where
-  yes-all : AllYes (first (asked (start c)))
-  yes-all = dealing-yes (asked (start c)) (dealt (c .before .before))
+  yes-all : AllYes (first (start c .args .listed) (asked (start c)))
+  yes-all = dealing-yes (start c .args .listed) (asked (start c)) (dealt (c .before .before))
 
   size-small : natAbs (start c .args .n) ≤ 2147483647
   size-small = natural-small 0 (start c .args .n) (sized c)
@@ -93,7 +94,7 @@ returns-3 : tie.Need-returns-3
 returns-3 c =
     let e2 = c .before .before in
     let s = start e2 in
-    bounds-refused (asked s) (dealt (e2 .before .before)) (sized e2)
+    bounds-refused (s .args .listed) (asked s) (dealt (e2 .before .before)) (sized e2)
     (sym (bounds (c .before)) ∙ not-true _ (c .if3 .taken))
 
 bounded : (c : tie.Else3) → boundsFit (asked (start (c .before .before))) ≡ true
@@ -149,7 +150,7 @@ returns-4 c =
     let e3 = c .before .before in
     let e2 = e3 .before .before in
     let s = start e2 in
-    cells-refused (asked s) (dealt (e2 .before .before)) (sized e2) (bounded e3)
+    cells-refused (s .args .listed) (asked s) (dealt (e2 .before .before)) (sized e2) (bounded e3)
     (sym (cells (c .before)) ∙ not-true _ (c .if4 .taken))
 
 returns-5 : tie.Need-returns-5
@@ -157,7 +158,7 @@ returns-5 c =
     let e3 = c .before .before in
     let e2 = e3 .before .before in
     let s = start e2 in
-    all-held (asked s) (dealt (e2 .before .before)) (sized e2) (bounded e3)
+    all-held (s .args .listed) (asked s) (dealt (e2 .before .before)) (sized e2) (bounded e3)
     (sym (cells (c .before)) ∙ not-false _ (c .if4 .left))
 
 pub first-refusal-spec : {M : Type 1} → statement M

@@ -17,8 +17,9 @@ use Rattle.model.specs.Ownership.{nat, cellUnder, blockIn, layoutOf}
 use Rattle.model.specs.Questions.{firstNo, ofMapping}
 use Rattle.model.proofs.AcceptedLaws.{whole-mapping, bounds-in, offset-small, mapped}
 use Rattle.mapping.specs.declared.questions.Mapped.the-variants.{By, Refused}
-use Rattle.mapping.specs.Answers.{mappingOf, mappedOf, Sound}
+use Rattle.mapping.specs.Answers.{mappingOf, ofListed, mappedOf, Sound}
 use Rattle.mapping.specs.Bounds.{Aligned}
+use Rattle.mapping.proofs.Refusals.{listed-asked}
 use Rattle.mapping.proofs.questions.mapped_of.Statement.{statement}
 use Rattle.mapping.proofs.questions.mapped_of.Tie as tie
 
@@ -32,8 +33,16 @@ asked s = mappingOf (s .args .t) (s .args .p) (dealingWith (s .args .d) (s .args
 first : (c : tie.After-first-refusal) → c .first-refusal .result ≡ firstNo (ofMapping (asked (c .before .before)))
 first c =
     let s = c .before .before in
+    let t = toZ-ofZ w64 (s .args .t) (s .fits .t) in
+    let p = toZ-ofZ w64 (s .args .p) (s .fits .p) in
+    let a = toZ-ofZ w64 (s .args .a) (s .fits .a) in
+    let b = toZ-ofZ w64 (s .args .b) (s .fits .b) in
+    let n = toZ-ofZ w64 (s .args .n) (s .fits .n) in
+    let l = toZ-ofZ w64 (s .args .lower) (s .fits .lower) in
+    let o = toZ-ofZ w64 (s .args .origin) (s .fits .origin) in
     c .first-refusal .ensures
-    ∙ (λ i. firstNo (ofMapping (mappingOf (toZ-ofZ w64 (s .args .t) (s .fits .t) i) (toZ-ofZ w64 (s .args .p) (s .fits .p) i) (dealingWith (s .args .d) (s .args .sizes .now)) (toZ-ofZ w64 (s .args .a) (s .fits .a) i) (toZ-ofZ w64 (s .args .b) (s .fits .b) i) (toZ-ofZ w64 (s .args .n) (s .fits .n) i) (toZ-ofZ w64 (s .args .lower) (s .fits .lower) i) (toZ-ofZ w64 (s .args .origin) (s .fits .origin) i))))
+    ∙ (λ i. firstNo (ofListed (s .pre i) (mappingOf (t i) (p i) (dealingWith (s .args .d) []) (a i) (b i) (n i) (l i) (o i))))
+    ∙ listed-asked (s .args .t) (s .args .p) (s .args .d) (s .args .sizes .now) (s .args .a) (s .args .b) (s .args .n) (s .args .lower) (s .args .origin)
 
 refused : (m : Mapping) (q : ℕ) → (q ≡ 0 → ⊥) → q ≡ firstNo (ofMapping m) → (Refused q ≡ mappedOf m) × (0 < q)
 unfolding mappedOf

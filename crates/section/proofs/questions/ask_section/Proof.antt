@@ -15,8 +15,11 @@ use Rattle.section.proofs.questions.ask_section.Tie as tie
 answered : (x : Section) {r : Asked} → r ≡ askedOf x → (r ≡ askedOf x) × Sound r
 answered x e = (e, subst Sound (sym e) (sound x))
 
+list-fits-requires : tie.Need-list-fits-requires
+list-fits-requires c κs = search needs
+
 ask-mapping-requires : tie.Need-ask-mapping-requires
-ask-mapping-requires c κs = search needs
+ask-mapping-requires c κs = c .list-fits .ensures
 
 enum-known-l : tie.Need-enum-known-l
 enum-known-l c = search needs
@@ -36,7 +39,7 @@ returns c =
     let told = c .before .struct-told3 .given in
     let payload = c .before .before .before .before .before in
     let asked = payload .before .before in
-    let s = asked .before .before .before .before in
+    let s = asked .before .before .before .before .before in
     let x = sectionWith (s .args .x) (s .args .sizes .now) in
     let known = payload .l .given in
     let sound = subst mapping.Sound (known .1) (asked .ask-mapping .ensures .1) in
@@ -52,7 +55,7 @@ returns-2 : tie.Need-returns-2
 returns-2 c =
     let payload = c .before in
     let asked = payload .before .before in
-    let s = asked .before .before .before .before in
+    let s = asked .before .before .before .before .before in
     let x = sectionWith (s .args .x) (s .args .sizes .now) in
     answered x (mapping-refused x _ (sym (asked .ask-mapping .ensures .0) ∙ payload .q .given .1))
 
@@ -60,6 +63,7 @@ pub ask-section-spec : {M : Type 1} → statement M
 ask-section-spec =
     tie.close
     (tie.spec
+    list-fits-requires
     ask-mapping-requires
     enum-known-l
     triplet-asked-requires

@@ -6,7 +6,7 @@
 ! 65536); an array of `size` elements (0 to 2147483647) is aligned to it. Indices
 ! are the declared ones, array_lower to array_lower + size - 1, wherever they go in
 ! or come out. Declared index j sits on declared cell stride*j + offset, which is
-! cell stride*j + offset - template_lower (stride 1 to 2147483647; offset and both
+! cell stride*j + offset - template_lower (stride 1 to 4096; offset and both
 ! bounds -2147483647 to 2147483647, and so the last index and the last declared
 ! cell). The first element's cell is 0 or more, the last one's below `cells`.
 !

@@ -8,7 +8,7 @@
  *   cells           T   cells of the template         1 to 2147483647
  *   processors      p   processors                    1 to 1024
  *   block           k   cells in a block              1 to 65536
- *   stride          a   cells from index to index     1 to 2147483647
+ *   stride          a   cells from index to index     1 to 4096
  *   offset          b   declared cell of index 0      -2147483647 to 2147483647
  *   size            n   elements of the array         0 to 2147483647
  *   array_lower     La  first declared index          -2147483647 to 2147483647

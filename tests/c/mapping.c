@@ -103,6 +103,7 @@ static void print_refusals(void)
     print_owned("no cells", ownership((hpf_mapping){0, 3, 4, 1, 0, 96, 0, 0}, 7));
     print_owned("1025 processors", ownership((hpf_mapping){96, 1025, 4, 1, 0, 96, 0, 0}, 7));
     print_owned("block of 65537", ownership((hpf_mapping){96, 3, 65537, 1, 0, 96, 0, 0}, 7));
+    print_owned("stride of 4097", ownership((hpf_mapping){96, 3, 4, 4097, 0, 1, 0, 0}, 0));
     print_owned("offset -2147483648", ownership((hpf_mapping){96, 3, 4, 1, -past, 96, 0, 0}, 7));
     print_owned("-1 elements", ownership((hpf_mapping){96, 3, 4, 1, 0, -1, past, 0}, 7));
     print_owned("lower bound 2147483648", ownership((hpf_mapping){96, 3, 4, 1, 0, 0, past, 0}, 7));
@@ -145,12 +146,15 @@ int main(void)
     const hpf_mapping from_one = {200, 4, 5, 2, -2, 100, 1, 0};
     const hpf_mapping from_minus_three = {47, 3, 4, 2, 1, 24, -3, -5};
     const hpf_mapping largest = {2147483647, 1024, 65536, 1, 0, 2147483647, 0, 0};
+    const hpf_mapping largest_stride = {2147483647, 1024, 64, 4096, 0, 524288, 0, 0};
     print_array(dense, 7);
     print_array(every_third_cell, 3);
     print_array(from_one, 7);
     print_array(from_minus_three, 2);
     print_mapping(largest);
     print_there_and_back(largest, 2147483646);
+    print_mapping(largest_stride);
+    print_there_and_back(largest_stride, 524287);
     print_refusals();
     print_names();
     return 0;

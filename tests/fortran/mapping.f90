@@ -13,6 +13,7 @@ program mapping
   type(hpf_mapping), parameter :: from_one = hpf_mapping(200, 4, 5, 2, -2, 100, array_lower=1)
   type(hpf_mapping), parameter :: from_minus_three = hpf_mapping(47, 3, 4, 2, 1, 24, -3, -5)
   type(hpf_mapping), parameter :: largest = hpf_mapping(2147483647, 1024, 65536, 1, 0, 2147483647)
+  type(hpf_mapping), parameter :: largest_stride = hpf_mapping(2147483647, 1024, 64, 4096, 0, 524288)
 
   call print_array(dense, 7_i64)
   call print_array(every_third_cell, 3_i64)
@@ -20,6 +21,8 @@ program mapping
   call print_array(from_minus_three, 2_i64)
   call print_mapping(largest)
   call print_there_and_back(largest, 2147483646_i64)
+  call print_mapping(largest_stride)
+  call print_there_and_back(largest_stride, 524287_i64)
   call print_refusals()
   call print_names()
 
@@ -121,6 +124,7 @@ contains
     call print_owned('no cells', ownership(hpf_mapping(0, 3, 4, 1, 0, 96), 7_i64))
     call print_owned('1025 processors', ownership(hpf_mapping(96, 1025, 4, 1, 0, 96), 7_i64))
     call print_owned('block of 65537', ownership(hpf_mapping(96, 3, 65537, 1, 0, 96), 7_i64))
+    call print_owned('stride of 4097', ownership(hpf_mapping(96, 3, 4, 4097, 0, 1), 0_i64))
     call print_owned('offset -2147483648', ownership(hpf_mapping(96, 3, 4, 1, -past, 96), 7_i64))
     call print_owned('-1 elements', ownership(hpf_mapping(96, 3, 4, 1, 0, -1, past), 7_i64))
     call print_owned('lower bound 2147483648', ownership(hpf_mapping(96, 3, 4, 1, 0, 0, past), 7_i64))

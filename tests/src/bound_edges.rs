@@ -1,11 +1,11 @@
-//! Mappings at an edge of what is accepted and one past it: the first and the last
-//! cell, index and declared cell.
+//! Mappings at an edge of what is accepted and one past it: the largest stride, and the
+//! first and the last cell, index and declared cell.
 
 use crate::answers;
 use crate::comparison::{Comparison, Difference, Outcome};
 use crate::generator::Generator;
 use crate::library::{Counted, Found, Mapping, Owned};
-use crate::questions;
+use crate::questions::{self, LARGEST_STRIDE};
 use crate::random_bounds::{with_bounds, with_random_bounds, with_random_indices, within};
 use crate::random_mappings::random_mapping;
 use crate::section_answers;
@@ -25,7 +25,8 @@ struct Edge {
 /// Makes an edge of a mapping with one element or more.
 type Maker = fn(&mut Generator, Mapping) -> Edge;
 
-const MAKERS: [Maker; 8] = [
+const MAKERS: [Maker; 9] = [
+    past_largest_stride,
     before_first_cell,
     past_last_cell,
     past_last_index,
@@ -50,6 +51,25 @@ pub fn compare_edges(comparison: &mut Comparison) -> Result<String, Difference> 
     Ok(format!(
         "{edges} edges of what is accepted, {TIMES} mappings at and past each"
     ))
+}
+
+/// The first element stays on its cell, and as many others as fit follow it.
+fn past_largest_stride(generator: &mut Generator, m: Mapping) -> Edge {
+    let most = (m.cells - 1 - m.first_cell()) / LARGEST_STRIDE + 1;
+    let strided = Mapping {
+        stride: LARGEST_STRIDE,
+        size: m.size.min(most),
+        ..with_bounds(&m, 0, 0)
+    };
+    let at = with_random_bounds(generator, &strided);
+    Edge {
+        at,
+        past: Mapping {
+            stride: LARGEST_STRIDE + 1,
+            ..at
+        },
+        refusal: 4,
+    }
 }
 
 /// The first cell is 0, and the offset or the template's bound moves it below.

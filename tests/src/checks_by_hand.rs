@@ -46,18 +46,33 @@ const REFUSED: [([i64; 8], i64, i32); 10] = [
 ];
 
 /// 1,024 processors pass and 1,025 do not; blocks of 65,536 cells pass and of
-/// 65,537 do not.
+/// 65,537 do not; strides of 4,096 pass and of 4,097 do not.
 pub fn compare_limits(comparison: &mut Comparison) -> Result<String, Difference> {
     let on_processors = |processors| Mapping {
         processors,
         ..MAPPING
     };
     let in_blocks_of = |block| Mapping { block, ..MAPPING };
+    let one_by = |stride| Mapping {
+        stride,
+        size: 1,
+        ..MAPPING
+    };
+    let two_by = |stride| Mapping {
+        cells: 4_097,
+        size: 2,
+        ..one_by(stride)
+    };
     comparison.ownership(&on_processors(1_024), 95, owned(23, 3))?;
     comparison.ownership(&on_processors(1_025), 95, Owned::refused(2))?;
     comparison.ownership(&in_blocks_of(65_536), 95, owned(0, 95))?;
     comparison.ownership(&in_blocks_of(65_537), 95, Owned::refused(3))?;
-    Ok("limits of processors and blocks, by hand".to_string())
+    comparison.ownership(&two_by(4_096), 1, owned(1, 0))?;
+    comparison.ownership(&two_by(4_097), 1, Owned::refused(4))?;
+    comparison.ownership(&one_by(4_096), 0, owned(0, 0))?;
+    comparison.ownership(&one_by(4_097), 0, Owned::refused(4))?;
+    comparison.ownership(&one_by(2_147_483_647), 0, Owned::refused(4))?;
+    Ok("limits of processors, blocks and strides, by hand".to_string())
 }
 
 /// Declared indices there and back.

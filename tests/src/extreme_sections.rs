@@ -9,6 +9,7 @@ use crate::fill_chains::Chains;
 use crate::library::Mapping;
 use crate::memory::Memory;
 use crate::processor_list::{Entry, List};
+use crate::questions::LARGEST_STRIDE;
 use crate::random_bounds::{with_bounds, with_random_bounds};
 use crate::random_sections::compare_section;
 use crate::section_comparison::Filling;
@@ -37,10 +38,10 @@ const ALIGNMENTS: [(i64, i64); 9] = [
     (3, 0),
     (5, 1),
     (64, 7),
-    (65_537, 11),
-    (67_108_863, 0),
-    (LARGEST / 3, 2),
-    (LARGEST - 1, 0),
+    (1_023, 0),
+    (4_093, 11),
+    (LARGEST_STRIDE - 1, 2),
+    (LARGEST_STRIDE, 0),
 ];
 
 /// How many entries of a list on a large machine are compared.
@@ -49,11 +50,11 @@ const LONGEST_LIST: u64 = 40;
 
 /// One-element sections of the element 0: stride, upper bound and step.
 const LONE_ELEMENTS: [[i64; 3]; 5] = [
-    [LARGEST, 0, LARGEST],
-    [LARGEST, LARGEST - 1, LARGEST],
-    [LARGEST, 0, -LARGEST],
-    [LARGEST, 1 - LARGEST, -LARGEST],
-    [LARGEST - 1, -7, 1 - LARGEST],
+    [LARGEST_STRIDE, 0, LARGEST],
+    [LARGEST_STRIDE, LARGEST - 1, LARGEST],
+    [LARGEST_STRIDE, 0, -LARGEST],
+    [LARGEST_STRIDE, 1 - LARGEST, -LARGEST],
+    [LARGEST_STRIDE - 1, -7, 1 - LARGEST],
 ];
 
 /// Their list on the owner of the element.
@@ -140,7 +141,7 @@ fn whole_sections(m: &Mapping) -> Vec<Triplet> {
         .collect()
 }
 
-/// A distance near 2^62 is no step where there is only one element.
+/// A distance near 2^43 is no step where there is only one element.
 pub fn compare_lone_elements(comparison: &mut Comparison) -> Result<String, Difference> {
     for (processors, block) in MACHINES {
         for [stride, upper, step] in LONE_ELEMENTS {

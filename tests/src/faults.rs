@@ -3,6 +3,7 @@
 
 use crate::generator::Generator;
 use crate::library::Mapping;
+use crate::questions::LARGEST_STRIDE;
 use crate::section_enumeration::{count, element};
 use crate::section_library::{Fill, Triplet};
 
@@ -64,7 +65,7 @@ fn outside(generator: &mut Generator, low: i64, high: i64) -> i64 {
 
 fn spoil_alignment(generator: &mut Generator, _: &Fill, fill: &mut Fill) {
     match generator.below(2) {
-        0 => fill.m.stride = outside(generator, 1, LARGEST),
+        0 => fill.m.stride = outside(generator, 1, LARGEST_STRIDE),
         _ => fill.m.offset = outside(generator, -LARGEST, LARGEST),
     }
 }

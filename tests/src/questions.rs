@@ -10,6 +10,7 @@ use crate::section_library::{Fill, Triplet};
 use crate::transfer_library::Transfer;
 
 const LARGEST: i128 = 2_147_483_647;
+pub const LARGEST_STRIDE: i64 = 4_096;
 
 /// Questions 1 to 5, with 15 between the halves of 5.
 pub fn of_mapping(m: &Mapping) -> i32 {
@@ -31,7 +32,10 @@ fn of_numbers(m: &Mapping) -> i32 {
         (1, (1..=LARGEST).contains(&cells)),
         (2, (1..=1_024).contains(&processors)),
         (3, (1..=65_536).contains(&block)),
-        (4, (1..=LARGEST).contains(&stride) && is_in_range(offset)),
+        (
+            4,
+            (1..=LARGEST_STRIDE.into()).contains(&stride) && is_in_range(offset),
+        ),
         (5, (0..=LARGEST).contains(&size)),
         (
             15,

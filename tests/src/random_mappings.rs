@@ -6,6 +6,7 @@ use crate::counting::Counting;
 use crate::enumeration::Place;
 use crate::generator::Generator;
 use crate::library::{Counted, Found, Mapping, Owned};
+use crate::questions::LARGEST_STRIDE;
 use crate::random_bounds::with_random_bounds;
 
 const MAPPINGS: u32 = 500_000;
@@ -72,12 +73,17 @@ pub fn random_mapping_of(generator: &mut Generator, size: u64) -> Mapping {
     with_random_bounds(generator, &Mapping::of(numbers.map(|number| number as i64)))
 }
 
-/// Small, of any size, or whole blocks, which leave some processors without elements.
+/// Small, up to the largest, or whole blocks if one is no longer than that, which leave
+/// some processors without elements.
 fn random_stride(generator: &mut Generator, block: u64) -> u64 {
+    let largest = LARGEST_STRIDE as u64;
     match generator.below(3) {
         0 => generator.of_any_size(64),
-        1 => generator.of_any_size(LARGEST),
-        _ => block * generator.of_any_size(64),
+        1 => generator.up_to(largest),
+        _ => {
+            let blocks = (largest / block).clamp(1, 64);
+            largest.min(block * generator.of_any_size(blocks))
+        }
     }
 }
 

@@ -17,6 +17,8 @@ const MOST_PROCESSORS: [i64; 8] = [96, 1_024, 4, 1, 0, 96, 0, 0];
 const TOO_MANY_PROCESSORS: [i64; 8] = [96, 1_025, 4, 1, 0, 96, 0, 0];
 const LARGEST_BLOCK: [i64; 8] = [96, 3, 65_536, 1, 0, 96, 0, 0];
 const TOO_LARGE_BLOCK: [i64; 8] = [96, 3, 65_537, 1, 0, 96, 0, 0];
+const LARGEST_STRIDE: [i64; 8] = [8_193, 3, 4, 4_096, 0, 3, 0, 0];
+const TOO_LARGE_STRIDE: [i64; 8] = [8_193, 3, 4, 4_097, 0, 1, 0, 0];
 /// A(1:48) aligned with T(3*j-3), and A(-3:44) with T(3*j+7) of a template from -2
 /// on: both are the array above on every third cell.
 const FROM_ONE: [i64; 8] = [144, 4, 4, 3, -3, 48, 1, 0];
@@ -26,7 +28,7 @@ const FROM_MINUS_THREE: [i64; 8] = [144, 4, 4, 3, 7, 48, -3, -2];
 const PAST_THE_LARGEST: [i64; 8] = [144, 4, 4, 1, 0, 48, 2_147_483_601, 0];
 
 /// A mapping, a section, and the answer of its steps.
-const STEPS: [([i64; 8], [i64; 3], [i64; 9]); 18] = [
+const STEPS: [([i64; 8], [i64; 3], [i64; 9]); 21] = [
     (DENSE, [0, 95, 7], [0, 14, 2, 14, 1, 2, 21, 2, -3]),
     (DENSE, [91, 0, -7], [0, 14, 2, 14, 1, 2, 21, 2, -3]),
     (EIGHT_ELEMENTS, [0, 10, 7], [0, 2, 2, 14, 1, 2, 21, 2, -3]),
@@ -48,6 +50,17 @@ const STEPS: [([i64; 8], [i64; 3], [i64; 9]); 18] = [
         [0, 96, 2, 1, 0, 1, 131_073, 1, -65_535],
     ),
     (TOO_LARGE_BLOCK, [0, 95, 1], [3, 0, 0, 0, 0, 0, 0, 0, 0]),
+    (
+        LARGEST_STRIDE,
+        [0, 2, 1],
+        [0, 3, 1, 12_288, 1_024, 0, 0, 0, 0],
+    ),
+    (
+        LARGEST_STRIDE,
+        [1, 2, 2_147_483_647],
+        [0, 1, 0, 0, 0, 0, 0, 0, 0],
+    ),
+    (TOO_LARGE_STRIDE, [0, 0, 1], [4, 0, 0, 0, 0, 0, 0, 0, 0]),
     (FROM_ONE, [1, 48, 3], [0, 16, 2, 18, 1, 2, 45, 3, -3]),
     (FROM_ONE, [0, 48, 3], [7, 0, 0, 0, 0, 0, 0, 0, 0]),
     (
@@ -63,7 +76,7 @@ const STEPS: [([i64; 8], [i64; 3], [i64; 9]); 18] = [
 /// count, and the addresses.
 type WholeList = ([i64; 8], [i64; 3], i64, [i32; 3], &'static [u32]);
 
-const LISTS: [WholeList; 21] = [
+const LISTS: [WholeList; 24] = [
     (DENSE, [0, 95, 7], 0, [0, 8, 14], &[0, 6, 17, 23, 28]),
     (DENSE, [0, 95, 7], 1, [1, 9, 14], &[3, 8, 14, 25, 31]),
     (DENSE, [0, 95, 7], 2, [3, 7, 14], &[5, 11, 16, 22]),
@@ -81,6 +94,9 @@ const LISTS: [WholeList; 21] = [
     (SMALL, [9, 0, -4], 0, [2, 1, 3], &[1]),
     (SMALL, [9, 0, -4], 1, [0, 1, 3], &[3]),
     (NO_ELEMENTS, [5, 1, 3], 0, [0, 0, 0], &[]),
+    (LARGEST_STRIDE, [0, 2, 1], 2, [2, 1, 3], &[0]),
+    (LARGEST_STRIDE, [1, 2, 2_147_483_647], 1, [0, 1, 1], &[0]),
+    (LARGEST_STRIDE, [1, 2, 2_147_483_647], 2, [1, 0, 1], &[]),
     (FROM_ONE, [1, 48, 3], 1, [4, 7, 16], &[2, 4, 9, 11]),
     (FROM_ONE, [1, 48, 3], 3, [5, 7, 16], &[3, 5, 8, 10]),
     (FROM_MINUS_THREE, [-3, 44, 3], 0, [0, 7, 16], &[0, 2, 7, 9]),

@@ -2,6 +2,7 @@
 //! decide about them: the offset, the size, the template's cells, and indices.
 
 use crate::comparison::{Comparison, Difference};
+use crate::questions::LARGEST_STRIDE;
 use crate::special_numbers::{combine, going_back, local_count, ownership};
 use crate::special_sections::{fill, first_place, section_steps};
 
@@ -9,12 +10,13 @@ const LARGEST: i64 = 2_147_483_647;
 
 /// Some leave the first element on cell 0, with offset and bounds at their ends: with
 /// stride 1 the offset LARGEST and the bounds -LARGEST 0, or -LARGEST and LARGEST - 18
-/// -18, or -LARGEST and 0 -LARGEST; with stride 5 LARGEST and -19 LARGEST - 95.
+/// -18, or -LARGEST and 0 -LARGEST; with stride 5 LARGEST and -19 LARGEST - 95. With the
+/// largest stride the first cell of an array without elements is almost 2^43.
 pub const MAPPINGS: [&[i64]; 8] = [
     &[0, 96, LARGEST],
     &[3],
     &[4],
-    &[0, 1, 5],
+    &[0, 1, 5, LARGEST_STRIDE],
     &[
         i64::MIN,
         -LARGEST - 1,

@@ -4,6 +4,7 @@
 use crate::answers;
 use crate::comparison::{Comparison, Difference, Outcome};
 use crate::library::Mapping;
+use crate::questions::LARGEST_STRIDE;
 
 const LARGEST: i64 = 2_147_483_647;
 
@@ -16,7 +17,15 @@ pub const MAPPINGS: [&[i64]; 8] = [
     &[i64::MIN, 0, 1, 96, LARGEST, LARGEST + 1, i64::MAX],
     &[i64::MIN, 0, 1, 3, 1_024, 1_025],
     &[0, 1, 4, 65_536, 65_537, i64::MAX],
-    &[i64::MIN, 0, 1, 5, LARGEST, LARGEST + 1, i64::MAX],
+    &[
+        i64::MIN,
+        0,
+        1,
+        5,
+        LARGEST_STRIDE,
+        LARGEST_STRIDE + 1,
+        i64::MAX,
+    ],
     &[-LARGEST - 1, -LARGEST, -1, 2, LARGEST, LARGEST + 1],
     &[i64::MIN, -1, 0, 1, 19, 20, LARGEST, LARGEST + 1, i64::MAX],
     &[-LARGEST - 1, 0],
@@ -30,7 +39,7 @@ const MAPPINGS_BACK: [&[i64]; 8] = [
     &[0, 1, 96, LARGEST, LARGEST + 1],
     &[0, 3, 1_024, 1_025],
     &[0, 4, 65_536, 65_537],
-    &[0, 1, 5, LARGEST, LARGEST + 1],
+    &[0, 1, 5, LARGEST_STRIDE, LARGEST_STRIDE + 1],
     &[-LARGEST - 1, -1, 0, 2, LARGEST],
     &[-1, 0, 1, 19, 20, LARGEST, LARGEST + 1],
     &[0, LARGEST + 1],
@@ -44,7 +53,7 @@ pub const LAWFUL: [[i64; 8]; 7] = [
     [96, 3, 4, 5, 2, 19, 0, 0],
     [LARGEST, 1_024, 65_536, 1, 0, LARGEST, 0, 0],
     [LARGEST, 1, 1, 1, LARGEST - 1, 1, 0, 0],
-    [1, 1, 1, LARGEST, 0, 1, 0, 0],
+    [1, 1, 1, LARGEST_STRIDE, 0, 1, 0, 0],
     [96, 3, 4, 1, LARGEST, 19, -LARGEST, 0],
     [96, 3, 4, 1, -LARGEST, 19, LARGEST - 18, -18],
     [96, 3, 4, 5, LARGEST, 19, -19, LARGEST - 95],
@@ -71,6 +80,8 @@ const EXCHANGES: &[i64] = &[
     1_023,
     1_024,
     1_025,
+    LARGEST_STRIDE,
+    LARGEST_STRIDE + 1,
     65_535,
     65_536,
     65_537,

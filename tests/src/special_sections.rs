@@ -6,6 +6,7 @@ use std::ops::Range;
 use crate::comparison::{Comparison, Difference, Outcome};
 use crate::library::Mapping;
 use crate::memory::Memory;
+use crate::questions::LARGEST_STRIDE;
 use crate::section_answers;
 use crate::section_library::{Fill, Triplet};
 use crate::special_numbers::{combine, exchange_pairs};
@@ -18,7 +19,7 @@ const MAPPINGS: [&[i64]; 8] = [
     &[0, 96, LARGEST, LARGEST + 1],
     &[0, 3, 1_024, 1_025],
     &[0, 4, 65_536, 65_537],
-    &[0, 5, LARGEST + 1],
+    &[0, 5, LARGEST_STRIDE + 1],
     &[-LARGEST - 1, -1, 2],
     &[-1, 0, 19, 20, LARGEST + 1],
     &[0, LARGEST + 1],
@@ -34,7 +35,7 @@ const MAPPINGS_OF_FILLS: [&[i64]; 8] = [
     &[96, LARGEST + 1],
     &[3, 1_025],
     &[4, 65_537],
-    &[5, LARGEST + 1],
+    &[5, LARGEST_STRIDE + 1],
     &[2, LARGEST + 1],
     &[19, 20],
     &[0, -LARGEST - 1],
@@ -46,7 +47,7 @@ const QUOTAS: &[i64] = &[2, 3, 1_000_000, 1_000_001];
 
 /// Calls in which two numbers at a time are exchanged for others: mapping,
 /// section, then processor, place and quota. One has two elements almost 2^31
-/// cells apart, and two have one element and a distance of almost 2^62 cells.
+/// cells apart, and two have one element and a distance of almost 2^43 cells.
 const LAWFUL: [([i64; 8], [i64; 3], [i64; 3]); 8] = [
     ([96, 3, 4, 5, 2, 19, 0, 0], [0, 18, 3], [0, 0, 3]),
     ([96, 3, 4, 1, 0, 96, 0, 0], [91, 0, -7], [1, 2, 9]),
@@ -56,13 +57,17 @@ const LAWFUL: [([i64; 8], [i64; 3], [i64; 3]); 8] = [
         [1_023, 0, 1_000_000],
     ),
     (
-        [LARGEST, 1_024, 3, LARGEST - 1, 0, 2, 0, 0],
-        [0, 1, 1],
+        [LARGEST, 1_024, 3, LARGEST_STRIDE, 0, 524_288, 0, 0],
+        [0, 524_287, 524_287],
         [0, 0, 999_999],
     ),
-    ([1, 1, 1, LARGEST, 0, 1, 0, 0], [0, 0, LARGEST], [0, 0, 4]),
     (
-        [1, 1, 65_536, LARGEST, 0, 1, 0, 0],
+        [1, 1, 1, LARGEST_STRIDE, 0, 1, 0, 0],
+        [0, 0, LARGEST],
+        [0, 0, 4],
+    ),
+    (
+        [1, 1, 65_536, LARGEST_STRIDE, 0, 1, 0, 0],
         [0, 1 - LARGEST, -LARGEST],
         [0, 1, 5],
     ),

@@ -3,6 +3,7 @@
 //! the right.
 
 use crate::comparison::{Comparison, Difference, Outcome};
+use crate::questions::LARGEST_STRIDE;
 use crate::special_numbers::{combine, exchange_pairs};
 use crate::transfer_answers;
 use crate::transfer_library::{Side, Transfer};
@@ -15,7 +16,7 @@ const LEFT: [&[i64]; 11] = [
     &[96, 0],
     &[3, 1_025],
     &[4, 0],
-    &[5, LARGEST + 1],
+    &[5, LARGEST_STRIDE + 1],
     &[2, -1],
     &[19, 20],
     &[0, LARGEST - 17],
@@ -80,7 +81,19 @@ const LAWFUL: [([i64; 11], [i64; 11], [i64; 2]); 2] = [
         [1, 0],
     ),
     (
-        [LARGEST, 1_024, 65_536, LARGEST - 1, 0, 2, 0, 0, 0, 1, 1],
+        [
+            LARGEST,
+            1_024,
+            65_536,
+            LARGEST_STRIDE,
+            0,
+            524_288,
+            0,
+            0,
+            0,
+            524_287,
+            524_287,
+        ],
         [
             2,
             1,

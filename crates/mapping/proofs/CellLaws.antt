@@ -125,7 +125,7 @@ rank-direct l s one i =
 -- address x leads to the cell of q that has y of q's cells below it
 pub record Led (l : Layout) (q x y : ℕ) : Type 0 where
   pub from : l .offset ≤ cellAt l q y
-  pub high : cellAt l q y < 2 ^ 32
+  pub high : cellAt l q y < 2 ^ 44
   pub element : cellAt l q y - l .offset ≡ backTo (ownerOf l) (l .size) q x
 
 module _ (l : Layout) (q x y : ℕ) (s : Stored l q x) (one : l .stride ≡ 1) (e : y ≡ x + cells l q (l .offset)) where
@@ -153,16 +153,12 @@ module _ (l : Layout) (q x y : ℕ) (s : Stored l q x) (one : l .stride ≡ 1) (
   back-direct =
       back-is (ownerOf l) q (l .size) x index (s .address) (ap (cellOwner l) cell-of-index ∙ owner-at l q (s .dealt) y) held-index
 
--- where there is an address, there are elements
-pub stored-some : {l : Layout} {q x : ℕ} → Stored l q x → 0 < l .size
-stored-some {l} {q} s = omega (arith, s .address, held-le (ownerOf l) q (l .size))
-
 -- y counts the cells of q below the offset, and x more
 pub led : {l : Layout} {q x : ℕ} (below : ℕ) → Stored l q x → l .stride ≡ 1 → below ≡ cells l q (l .offset) → Led l q x (x + below)
 led {l} {q} {x} below s one e =
     let f : x + below ≡ x + cells l q (l .offset) = omega arith in
     record {
       from = offset-le l q x (x + below) s one f;
-      high = omega (arith, cell-of-index l q x (x + below) s one f, cell-high l (s .dealt .sized) _ (le-of-lt (index-lt l q x (x + below) s one f)) (stored-some s));
+      high = omega (arith, cell-of-index l q x (x + below) s one f, cell-high l (s .dealt .sized) _ (le-of-lt (index-lt l q x (x + below) s one f)));
       element = sym (back-direct l q x (x + below) s one f);
     }

@@ -1,7 +1,7 @@
 -- A processor's elements below an index are the difference of two sums of courses, and the sums fit. Assumes nothing.
-use Prim.Native.Nat.{ℕ, zero, suc, _+_, _-_, _*_, _/_, _%_, _<_}
+use Prim.Native.Nat.{ℕ, zero, suc, _+_, _-_, _*_, _/_, _%_, _^_, _≤_, _<_}
 use mathlib.Core.Path.{_≡_, sym, ap, _∙_}
-use native.Mathlib.Nat.{div-add-mod', mod-lt, div-div-eq-div-mul, add-mul-div-right, mul-comm}
+use native.Mathlib.Nat.{div-add-mod', mod-lt, div-div-eq-div-mul, add-mul-div-right, mul-comm, mul-le-mul, mul-le-mul-left}
 use native.Mathlib.Decide.{decLt}
 use native.Mathlib.Omega.{arith}
 use Rattle.numbers.specs.FloorSum.{SumFits}
@@ -10,7 +10,7 @@ use Rattle.numbers.proofs.SumLaws.{sum-none, sum-last}
 use Rattle.model.specs.declared.Layout.{Layout}
 use Rattle.model.specs.Ownership.{held, cellOf, cellOwner, ownerOf}
 use Rattle.model.proofs.HeldLaws.{oneIf, one-of, none-of, held-none, held-next}
-use Rattle.model.proofs.SizedLaws.{blocks-le, course-pos, cell-high}
+use Rattle.model.proofs.SizedLaws.{blocks-le, course-pos}
 use Rattle.mapping.specs.Bounds.{Dealt, Moved}
 use Rattle.mapping.specs.Counts.{courseSum}
 
@@ -55,10 +55,21 @@ module _ (l : Layout) where
   held-sums q d (suc i) =
       omega (arith, held-sums q d i, held-next (ownerOf l) q i, sum-next i (l .processors - q), sum-next i (l .processors - q - 1), cell-step (l .processors) q (d .processor) (l .block) (cellOf l i) (d .sized .block-pos))
 
+-- the cells below that of i are in the template, and that of i is no more than a stride above them
+total-low : (l : Layout) (i d : ℕ) → Moved l i d → suc i * (l .stride * i + (l .offset + d * l .block)) < 2 ^ 64
+total-low l zero d m = omega (arith, blocks-le l (m .sized) d (m .blocks), m .sized .offset-high)
+total-low l (suc i) d m =
+    let z = m .sized in
+    let before : i ≤ l .size - 1 = omega (arith, m .index) in
+    let inside = z .inside (omega (arith, m .index)) in
+    let terms : suc (suc i) ≤ 2 ^ 31 = omega (arith, m .index, z .size-high) in
+    let last : l .stride * i + (l .offset + d * l .block) ≤ 2 ^ 32 =
+    omega (arith, inside, z .cells-high, mul-le-mul-left (l .stride) before, blocks-le l z d (m .blocks)) in
+    omega (arith, mul-le-mul terms last, last, z .stride-high)
+
 pub sum-bounds : (l : Layout) (i d : ℕ) → Moved l i d → SumFits i (l .processors * l .block) (l .stride) (l .offset + d * l .block)
-unfolding cellOf
 sum-bounds l i d m = record {
   divisor = course-pos l (m .sized);
   terms = omega (arith, m .index, m .sized .size-high);
-  last = omega (arith, blocks-le l (m .sized) d (m .blocks), cell-high l (m .sized) i (m .index) (m .some));
+  total = total-low l i d m;
 }

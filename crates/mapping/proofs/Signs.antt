@@ -2,7 +2,6 @@
 use Prim.Native.Nat.{ℕ, suc, zero-le, _≤_, _<_}
 use mathlib.Core.Path.{_≡_, refl, sym, _∙_}
 use mathlib.Core.Bool.{Bool, true, false, not, false≢true}
-use native.Mathlib.Nat.{le-refl}
 use native.Mathlib.Omega.{arith}
 use borrow.Author.Tests.{ne-eqb, ltb-true, le-leb, not-true, not-false}
 use lib.Dec.{T, eqb, ltb}
@@ -35,11 +34,6 @@ pub kept : (z : ℤ) → ltZ z (pos 0) ≡ false → natAbs z ≡ nat z
 unfolding nat
 kept (pos n) e = refl
 kept (negsuc n) e = absurd (false≢true (sym e))
-
-pub natural-le : (z : ℤ) → nat z ≤ natAbs z
-unfolding nat
-natural-le (pos n) = le-refl n
-natural-le (negsuc n) = zero-le
 
 -- a negative number is below nothing that is counted from 0, and any other is compared as it is
 pub negative-outside : (z : ℤ) (n : ℕ) → ltZ z (pos 0) ≡ true → false ≡ isBelow (pos n) z

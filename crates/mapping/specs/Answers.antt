@@ -7,7 +7,7 @@ use lib.IntN.{ℤ, pos, natAbs, _+ℤ_, _-ℤ_}
 use Rattle.model.specs.Mappings.{Dealing, cyclic, genBlock, Mapping}
 use Rattle.model.specs.declared.Layout.{Layout}
 use Rattle.model.specs.Ownership.{nat, layoutOf, rank, held, backTo}
-use Rattle.model.specs.Questions.{Question, ask, between, isBelow, most, least, blockFits, sizesFit, boundsFit, cellsFit, firstNo, ofMapping}
+use Rattle.model.specs.Questions.{Question, ask, between, isBelow, most, least, mostStride, blockFits, sizesFit, boundsFit, cellsFit, firstNo, ofMapping}
 use Rattle.model.specs.Calls.{OwnershipAnswer, GoingBackAnswer, LocalCountAnswer}
 use Rattle.model.specs.Sized.{Sized}
 use Rattle.mapping.specs.declared.questions.Mapped.{Mapped}
@@ -36,7 +36,7 @@ ofDealing t p d listed a b =
     ∷ ask 2 (between (pos 1) (pos 1024) p)
     ∷ ask 3 (blockFits d)
     ∷ ask 16 listed
-    ∷ ask 4 (between (pos 1) most a && between least most b)
+    ∷ ask 4 (between (pos 1) (pos mostStride) a && between least most b)
     ∷ []
 
 -- all of a mapping's questions, by the answer to 16

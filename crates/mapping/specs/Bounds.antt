@@ -8,10 +8,11 @@ use lib.Signed.{ltZ}
 use Rattle.model.specs.declared.Layout.{Layout}
 use Rattle.model.specs.Ownership.{ownerOf, held}
 use Rattle.model.specs.Sized.{Sized}
+use Rattle.model.specs.Questions.{mostStride}
 
 -- an alignment and an index in range, so that the cell fits 64 bits
 pub record Aligned (a b o j : ℤ) : Type 0 where
-  pub stride : natAbs a ≤ 2147483647
+  pub stride : natAbs a ≤ mostStride
   pub offset : natAbs b ≤ 2147483647
   pub origin : natAbs o ≤ 2147483647
   pub index : natAbs j ≤ 2147483647
@@ -27,11 +28,10 @@ pub record Dealt (l : Layout) (q : ℕ) : Type 0 where
   pub sized : Sized l
   pub processor : q < l .processors
 
--- and i an index, or the number of elements; there are some
+-- and i an index, or the number of elements
 pub record Below (l : Layout) (q i : ℕ) : Type 0 where
   pub dealt : Dealt l q
   pub index : i ≤ l .size
-  pub some : 0 < l .size
 
 -- and x a local address of it
 pub record Stored (l : Layout) (q x : ℕ) : Type 0 where
@@ -42,5 +42,4 @@ pub record Stored (l : Layout) (q x : ℕ) : Type 0 where
 pub record Moved (l : Layout) (i d : ℕ) : Type 0 where
   pub sized : Sized l
   pub index : i ≤ l .size
-  pub some : 0 < l .size
   pub blocks : d ≤ l .processors

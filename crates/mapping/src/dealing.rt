@@ -16,7 +16,7 @@ ghost use Rattle.mapping.specs.Counts.{overlap, courseSum};
 // The cell that element i sits on, or that the next element after the last would.
 pub fn cell_of(l: Layout, i: Index) -> Cell
     requires { ⌜ Sized l ⌝ }
-    requires { ⌜ (i .0 ≤ l .size) × (0 < l .size) ⌝ }
+    requires { ⌜ i .0 ≤ l .size ⌝ }
     ensures { λ r. ⌜ r .0 ≡ cellOf l (i .0) ⌝ }
 {
     Cell(l.stride * i.0 + l.offset)

@@ -3,7 +3,7 @@
 ghost use mathlib.Core.Path.{_≡_};
 ghost use Prim.Native.Nat.{_≤_, _<_, _^_};
 ghost use Rattle.model.specs.Mappings.{dealingWith};
-ghost use Rattle.model.specs.Ownership.{ownerOf, held, rank};
+ghost use Rattle.model.specs.Ownership.{ownerOf, rank};
 ghost use Rattle.model.specs.Sized.{Sized};
 ghost use Rattle.mapping.specs.Bounds.{Dealt};
 ghost use Rattle.mapping.specs.Parts.{partIn, indexFrom, heldIn, foundIn, ownerFor, Listed, Low};
@@ -51,18 +51,7 @@ pub fn index_from(l: Layout, c: Cell) -> Index
     Index(multiples_below(l.stride, l.size, c.0 - l.offset))
 }
 
-// How many elements processor q has in its blocks. An array of none has no cell to count from.
-pub fn elements_on(l: Layout, q: u64) -> u64
-    requires { ⌜ Dealt l q ⌝ }
-    ensures { λ r. ⌜ r ≡ held (ownerOf l) (l .size) q ⌝ }
-{
-    if l.size == 0 {
-        return 0;
-    }
-    held_below(l, q, Index(l.size))
-}
-
-// And how many in a run.
+// How many elements a run has.
 fn elements_along(l: Layout, r: Run) -> u64
     requires { ⌜ Sized l × (r .start ≤ r .end) × (r .end ≤ 2 ^ 42) ⌝ }
     ensures { λ n. ⌜ n ≡ heldIn l 0 (Part.Run r) ⌝ }
@@ -76,7 +65,7 @@ pub(crate) fn elements_in(l: Layout, q: u64, part: Part) -> u64
     ensures { λ r. ⌜ r ≡ heldIn l q part ⌝ }
 {
     match part {
-        Part::Blocks => elements_on(l, q),
+        Part::Blocks => held_below(l, q, Index(l.size)),
         Part::Run(r) => elements_along(l, r),
     }
 }

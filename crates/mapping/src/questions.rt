@@ -17,6 +17,9 @@ use model::Mapping;
 // The largest number that any question lets pass.
 const MOST: i64 = 2147483647;
 
+// The largest alignment stride.
+const MOST_STRIDE: i64 = 4096;
+
 // Is x from low to high?
 pub fn within(low: i64, high: i64, x: i64) -> bool
     ensures { λ r. ⌜ r ≡ between low high x ⌝ }
@@ -95,7 +98,7 @@ fn dealing_refusal(t: i64, p: i64, d: Dealing, listed: bool, a: i64, b: i64) -> 
     if !listed {
         return 16;
     }
-    if !within(1, MOST, a) {
+    if !within(1, MOST_STRIDE, a) {
         return 4;
     }
     if !within(-MOST, MOST, b) {

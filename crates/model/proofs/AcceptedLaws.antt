@@ -1,5 +1,5 @@
 -- What a yes to every question says of a mapping's numbers, and of a section's.
-use Prim.Native.Nat.{ℕ, zero, suc, _+_, _-_, _*_, _≤_, _<_}
+use Prim.Native.Nat.{ℕ, zero, suc, _+_, _-_, _*_, _^_, _≤_, _<_}
 use mathlib.Core.Path.{_≡_, refl, sym, ap, _∙_}
 use mathlib.Core.Bool.{Bool, true, false, not, _&&_, _||_}
 use native.Mathlib.Nat.{mul-le-mul-left}
@@ -9,16 +9,18 @@ use lib.Dec.{ltb, eqb}
 use lib.IntN.{ℤ, pos, negsuc, natAbs, _+ℤ_, _-ℤ_, _*ℤ_}
 use lib.Signed.{leZ, ltZ}
 use borrow.Author.Tests.{ltb-true, ltb-false, le-ltb, eqb-false, ne-eqb, not-true}
+use Rattle.numbers.proofs.Division.{product-le}
+use Rattle.numbers.proofs.Signed.{size-add, size-sub, size-mul}
 use Rattle.numbers.proofs.Tests.{both-true}
 use Rattle.model.specs.Mappings.{Dealing, cyclic, genBlock, Mapping, Section}
 use Rattle.model.specs.declared.Triplet.{Triplet}
 use Rattle.model.specs.Ownership.{nat, cellUnder, lastIndex, lastCell, declaredIndex, blockIn, layoutOf, cellOf}
 use Rattle.model.specs.Sections.{elementAt, layout, count}
 use Rattle.model.specs.Sized.{Sized}
-use Rattle.model.specs.Questions.{firstNo, AllYes, between, isBelow, most, least, blockFits, sizesFit, runsFit, boundsFit, cellsFit, ofMapping}
+use Rattle.model.specs.Questions.{firstNo, AllYes, between, isBelow, most, least, mostStride, blockFits, sizesFit, runsFit, boundsFit, cellsFit, ofMapping}
 use Rattle.model.specs.Questions.{isIndex, inRange, endsFit, ofTriplet, ofSection}
 use Rattle.model.proofs.BoundLaws.{taken-off, index-from, last-declared, cell-further}
-use Rattle.model.proofs.QuestionLaws.{all-yes, both-yes, Natural, between-is, size-is, Below, below-is, not-below, is-below}
+use Rattle.model.proofs.QuestionLaws.{all-yes, both-yes, natural-le, Natural, between-is, size-is, Below, below-is, not-below, is-below}
 
 -- ---- a mapping
 
@@ -84,8 +86,8 @@ module _ (m : Mapping) (ok : firstNo (ofMapping m) ≡ 0) where
   pub runs-in : {sizes : List ℤ} {left : ℕ} → m .dealing ≡ genBlock sizes left → sizesFit (m .cells) (m .processors) sizes left ≡ true
   runs-in d = rw d at sizes-in
 
-  stride-in : Natural (m .stride) 1 2147483647
-  stride-in = between-is 1 2147483647 (m .stride) (both-true (between (pos 1) most (m .stride)) (between least most (m .offset)) (yes-all .1 .1 .1 .1 .0) .0)
+  pub stride-in : Natural (m .stride) 1 mostStride
+  stride-in = between-is 1 mostStride (m .stride) (both-true (between (pos 1) (pos mostStride) (m .stride)) (between least most (m .offset)) (yes-all .1 .1 .1 .1 .0) .0)
 
   size-in : Natural (m .size) 0 2147483647
   size-in = between-is 0 2147483647 (m .size) (yes-all .1 .1 .1 .1 .1 .0)
@@ -106,7 +108,7 @@ module _ (m : Mapping) (ok : firstNo (ofMapping m) ≡ 0) where
 
   pub offset-small : natAbs (m .offset) ≤ 2147483647
   offset-small =
-      size-is (m .offset) (both-true (between (pos 1) most (m .stride)) (between least most (m .offset)) (yes-all .1 .1 .1 .1 .0) .1)
+      size-is (m .offset) (both-true (between (pos 1) (pos mostStride) (m .stride)) (between least most (m .offset)) (yes-all .1 .1 .1 .1 .0) .1)
 
   -- an array with elements
   some-in : 1 ≤ layoutOf m .size → ltZ (m .size) (pos 1) ≡ false
@@ -138,6 +140,24 @@ module _ (m : Mapping) (ok : firstNo (ofMapping m) ≡ 0) where
         omega (arith, f .last, mul-le-mul-left (layoutOf m .stride) e),
       )
 
+  -- the cell of the first element, or where it would be
+  first-high : layoutOf m .offset < 2 ^ 44
+  unfolding layoutOf cellUnder
+  first-high =
+      let a = m .stride *ℤ m .lower in
+      let c = a +ℤ m .offset in
+      let stride : natAbs (m .stride) ≤ mostStride = omega (arith, stride-in .upto, ap natAbs (stride-in .whole)) in
+      omega (
+        arith,
+        natural-le (c -ℤ m .origin),
+        size-sub c (m .origin),
+        size-add a (m .offset),
+        size-mul (m .stride) (m .lower),
+        product-le mostStride 2147483647 stride (bounds-in .lower),
+        offset-small,
+        bounds-in .origin,
+      )
+
   pub mapped : Mapped m
   unfolding layoutOf
   mapped =
@@ -149,7 +169,8 @@ module _ (m : Mapping) (ok : firstNo (ofMapping m) ≡ 0) where
         block-pos = block-in .from;
         block-high = block-in .upto;
         stride-pos = stride-in .from;
-        stride-high = stride-in .upto;
+        stride-high = omega (arith, stride-in .upto);
+        offset-high = first-high;
         size-high = size-in .upto;
         inside = λ h. cells-fit h .last;
       }

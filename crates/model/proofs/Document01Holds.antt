@@ -1,18 +1,20 @@
--- Of a cyclic template with both bounds 0 and b of 0 or more every answer is document 01's. Assumes nothing.
+-- Of a cyclic template with both bounds 0, b of 0 or more and a up to the limit every answer is document 01's. Assumes nothing.
 use Prim.Native.Nat.{ℕ, _-_}
 use mathlib.Core.Path.{_≡_, refl, sym, ap, _∙_}
 use mathlib.Core.Bool.{Bool, true, false, cond, _&&_, _||_, true≢false}
 use mathlib.Core.List.{List, [], _∷_, _++_}
+use native.Mathlib.Omega.{arith}
 use lib.Dec.{eqb}
 use lib.IntN.{ℤ, pos, negsuc, _+ℤ_, _-ℤ_, _*ℤ_, +ℤ-idl, *ℤ-zero}
 use lib.ListN.{length}
 use lib.Signed.{leZ, ltZ}
+use borrow.Author.Tests.{leb-true, le-leb}
 use Rattle.numbers.specs.Search.{passing}
 use Rattle.model.specs.Mappings.{Mapping, Section}
 use Rattle.model.specs.Ownership.{nat, cellUnder, lastIndex, fromLower, declaredIndex, blockIn, layoutOf, ownerOf, owner, rank, held, backTo}
 use Rattle.model.specs.Sections.{elementAt, layout, count, index, address}
 use Rattle.model.specs.Filling.{answer}
-use Rattle.model.specs.Questions.{Question, ask, firstNo, between, blockFits, runsFit, isBelow, most, least, boundsFit, cellsFit, ofMapping, isIndex, inRange, endsFit}
+use Rattle.model.specs.Questions.{Question, ask, firstNo, between, blockFits, runsFit, isBelow, most, least, mostStride, boundsFit, cellsFit, ofMapping, isIndex, inRange, endsFit}
 use Rattle.model.specs.Questions.{ofSection, ofProcessor, ofIndex, ofAddress, ofQuota}
 use Rattle.model.specs.Calls.{ownership, goingBack, localCount, stepsReport, noReport, sectionSteps, firstPlaceAt, FillCall, ofFill, requestOf, fill}
 use Rattle.model.specs.Transfers.{TransferCall, isEntry, pairPlaces, placesOf, ofCounts, ofRoom, entriesOf, ofTransfer, transfers, withEntries, listsAfter}
@@ -45,6 +47,11 @@ same-after : (xs r r′ : List Question) → firstNo r ≡ firstNo r′ → firs
 unfolding firstNo
 same-after [] r r′ e = e
 same-after (x ∷ xs) r r′ e = λ i. cond (x .holds) (same-after xs r r′ e i) (x .number)
+
+small-stride : (a : ℤ) → leZ a (pos mostStride) ≡ true → between (pos 1) (pos mostStride) a ≡ between (pos 1) most a
+unfolding between
+small-stride (pos n) e = rw (e, le-leb n 2147483647 (omega (arith, leb-true n mostStride e)))
+small-stride (negsuc n) e = refl
 
 natural-offset : (b : ℤ) → leZ (pos 0) b ≡ true → between least most b ≡ between (pos 0) most b
 unfolding between
@@ -114,8 +121,8 @@ module _ (m : Mapping) (p : Plain m) where
       let k = between (pos 1) (pos 65536) (blockIn (m .dealing)) in
       let a = between (pos 1) most (m .stride) in
       let n = between (pos 0) most (m .size) in
-      dealt t q (cond (a && between least most (m .offset)) (cond n (cond (boundsFit m) (cond (cellsFit m) (firstNo r) 5) 15) 5) 4)
-      ∙ (λ i. bounded t q k (a && natural-offset (m .offset) (p .offset) i) n (boundsFit m) (cells-plain i) (firstNo r))
+      dealt t q (cond (between (pos 1) (pos mostStride) (m .stride) && between least most (m .offset)) (cond n (cond (boundsFit m) (cond (cellsFit m) (firstNo r) 5) 15) 5) 4)
+      ∙ (λ i. bounded t q k (small-stride (m .stride) (p .stride) i && natural-offset (m .offset) (p .offset) i) n (boundsFit m) (cells-plain i) (firstNo r))
       ∙ without-15 t q k (a && between (pos 0) most (m .offset)) n (boundsFit m) (plainCells m) (firstNo r)
       (λ e f. zero-bounds m (p .lower) (p .origin) (between-is 1 2147483647 (m .cells) e) (between-is 0 2147483647 (m .size) f))
 

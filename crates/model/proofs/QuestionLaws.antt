@@ -3,7 +3,7 @@ use Prim.Native.Nat.{ℕ, _≤_, _<_, zero-le}
 use mathlib.Core.Path.{_≡_, refl, sym, _∙_}
 use mathlib.Core.Bool.{Bool, true, false, not, _&&_, true≢false}
 use mathlib.Core.List.{List, [], _∷_, _++_}
-use native.Mathlib.Nat.{not-suc-le-zero}
+use native.Mathlib.Nat.{le-refl, not-suc-le-zero}
 use native.Mathlib.Omega.{arith}
 use lib.Dec.{leb, ltb, eqb}
 use lib.IntN.{ℤ, pos, negsuc, natAbs}
@@ -87,6 +87,12 @@ both-yes xs ys n e = go (eqb (firstNo xs) 0) refl
     go false p = let f = eqb-false (firstNo xs) 0 p in absurd (f (sym (stops xs ys f) ∙ e))
 
 -- ---- a number in a range
+
+-- a number is no larger than its size
+pub natural-le : (z : ℤ) → nat z ≤ natAbs z
+unfolding nat
+natural-le (pos n) = le-refl n
+natural-le (negsuc n) = zero-le
 
 -- an integer that is a natural number
 pub record Natural (z : ℤ) (low high : ℕ) : Type 0 where

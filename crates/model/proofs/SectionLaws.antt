@@ -1,5 +1,5 @@
 -- The elements of an accepted section: in range, each at one position, and c positions apart by c times the spread.
-use Prim.Native.Nat.{ℕ, zero, suc, _+_, _-_, _*_, _≤_, _<_, zero-le}
+use Prim.Native.Nat.{ℕ, zero, suc, _+_, _-_, _*_, _^_, _≤_, _<_, zero-le}
 use mathlib.Core.Path.{_≡_, refl, sym, ap, _∙_, subst}
 use mathlib.Core.Bool.{Bool, true, false}
 use native.Mathlib.Nat.{add-mul, mul-add, mul-le-mul-left, mul-le-mul-right, mul-pos, le-trans}
@@ -8,15 +8,16 @@ use lib.Dec.{ltb}
 use lib.IntN.{ℤ, pos, negsuc, negℤ, natAbs, _+ℤ_, _-ℤ_, _*ℤ_, zero-*ℤ, +ℤ-idr, pos-ne-negsuc}
 use lib.Signed.{nonNeg}
 use borrow.Author.Tests.{ltb-false, ltb-true, le-ltb}
+use Rattle.numbers.proofs.Division.{product-le}
 use Rattle.model.specs.Mappings.{Section}
-use Rattle.model.specs.Ownership.{nat, fromLower, declaredIndex, cellOf}
+use Rattle.model.specs.Ownership.{nat, fromLower, declaredIndex, layoutOf, cellOf}
 use Rattle.model.specs.Sections.{elementAt, layout, count, index, cell}
 use Rattle.model.specs.Steps.{spread, upward}
-use Rattle.model.specs.Questions.{firstNo, ofSection}
+use Rattle.model.specs.Questions.{mostStride, firstNo, ofSection}
 use Rattle.model.specs.Demand3.{apart}
 use Rattle.model.proofs.BoundLaws.{swapped, declared-from}
 use Rattle.model.proofs.QuestionLaws.{Below}
-use Rattle.model.proofs.AcceptedLaws.{index-is, Accepted, accepted}
+use Rattle.model.proofs.AcceptedLaws.{stride-in, index-is, Accepted, mapping-yes, accepted}
 
 -- ---- integers
 
@@ -151,6 +152,12 @@ module _ (x : Section) (ok : firstNo (ofSection x) ≡ 0) where
 
   pub cells-apart : (t c : ℕ) → t + c < count x → apart (cell x t) (cell x (t + c)) ≡ c * spread x
   cells-apart t c h = moved-apart (upward x) (cell x t) (cell x (t + c)) (c * spread x) (cells-moved t c h)
+
+  -- by questions 4 and 6
+  pub spread-fits : spread x < 2 ^ 43
+  unfolding spread layout layoutOf
+  spread-fits =
+      omega (arith, product-le mostStride 2147483647 (stride-in (x .mapping) (mapping-yes x ok) .upto) (a .step-high))
 
   -- two elements lie in the cells, so that the spread is no larger than their number
   pub spread-high : 2 ≤ count x → spread x < 2147483648

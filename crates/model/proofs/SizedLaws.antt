@@ -22,16 +22,12 @@ module _ (l : Layout) (s : Sized l) where
   course-pos = mul-pos (s .processors-pos) (s .block-pos)
 
   -- cells of elements and the one after them
-  pub cell-high : (i : ℕ) → i ≤ l .size → 0 < l .size → cellOf l i < 2 ^ 32
+  pub cell-high : (i : ℕ) → i ≤ l .size → cellOf l i < 2 ^ 44
   unfolding cellOf
-  cell-high i h some = go (l .size) h some (s .inside)
+  cell-high i h = go (l .size) h (s .inside)
     where
-      go : (n : ℕ) → i ≤ n → 0 < n → (1 ≤ n → l .stride * (n - 1) + l .offset < l .cells) → l .stride * i + l .offset < 2 ^ 32
-      go zero h k f = absurd (omega arith)
-      go (suc n) h k f =
+      go : (n : ℕ) → i ≤ n → (1 ≤ n → l .stride * (n - 1) + l .offset < l .cells) → l .stride * i + l .offset < 2 ^ 44
+      go zero h f = let none : i ≡ 0 = omega arith in rw none (omega (arith, s .offset-high))
+      go (suc n) h f =
           let e : suc n - 1 ≡ n = omega arith in
           omega (arith, f (omega arith), s .cells-high, s .stride-high, ap (λ (x : ℕ). l .stride * x) e, mul-le-mul-left (l .stride) h)
-
-  -- the first element's cell
-  pub offset-high : 0 < l .size → l .offset < 2 ^ 31
-  offset-high some = omega (arith, s .inside some, s .cells-high)

@@ -13,7 +13,7 @@ use Rattle.model.specs.Mappings.{Mapping}
 use Rattle.model.specs.declared.Layout.{Layout}
 use Rattle.model.specs.Ownership.{nat, cellUnder, lastIndex, lastCell, layoutOf}
 use Rattle.model.specs.Sized.{Sized}
-use Rattle.model.specs.Questions.{between, most, least, boundsFit, cellsFit, ofMapping, Passes}
+use Rattle.model.specs.Questions.{between, most, least, mostStride, boundsFit, cellsFit, ofMapping, Passes}
 use Rattle.model.specs.Shifted.{fromZero}
 use Rattle.model.proofs.BoundLaws.{last-declared, cell-further}
 use Rattle.model.proofs.QuestionLaws.{all-yes, none-no, Natural, between-is}
@@ -87,7 +87,7 @@ module _ (m : Mapping) (ok : Passes m) (some : 1 ≤ layoutOf m .size) where
   pub passes : Passes (fromZero m)
   passes =
       let yes-all = all-yes (ofMapping m) refl ok in
-      let stride = both-true (between (pos 1) most (m .stride)) _ (yes-all .1 .1 .1 .1 .0) .0 in
+      let stride = both-true (between (pos 1) (pos mostStride) (m .stride)) _ (yes-all .1 .1 .1 .1 .0) .0 in
       none-no (ofMapping (fromZero m)) (
         yes-all .0,
         (yes-all .1 .0, (yes-all .1 .1 .0, (yes-all .1 .1 .1 .0, (rw (stride, offset-in), (yes-all .1 .1 .1 .1 .1 .0, (bounds-fit, (cells-in, tt))))))),

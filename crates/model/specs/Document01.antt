@@ -1,5 +1,5 @@
 -- Document 01's own answers, in which elements count from 0 and element i sits on cell a·i + b, and the law of A1 about them:
--- of a cyclic template with both bounds 0 and b of 0 or more, every answer is document 01's. Definitions, and that statement.
+-- of a cyclic template with both bounds 0, b of 0 or more and a up to A6's limit, every answer is document 01's. Definitions, and that statement.
 use Prim.Native.Nat.{ℕ, _+_, _-_, _*_, _/_}
 use mathlib.Core.Path.{_≡_}
 use mathlib.Core.Bool.{Bool, true, cond, _&&_, _||_}
@@ -17,7 +17,7 @@ use Rattle.model.specs.Ownership.{nat, blockIn, cellOf, courseCells, col
 use Rattle.model.specs.Sections.{elementAt, count}
 use Rattle.model.specs.Steps.{Going, stepsBy, goOn, isPast}
 use Rattle.model.specs.Filling.{Walk, Outcome, answer}
-use Rattle.model.specs.Questions.{Question, ask, firstNo, between, isBelow, most, inRange, ofProcessor, ofQuota}
+use Rattle.model.specs.Questions.{Question, ask, firstNo, between, isBelow, most, mostStride, inRange, ofProcessor, ofQuota}
 use Rattle.model.specs.Calls.{OwnershipAnswer, ownership, GoingBackAnswer, goingBack, LocalCountAnswer, localCount}
 use Rattle.model.specs.Calls.{stepsReport, noReport, SectionStepsAnswer, sectionSteps, PlaceAnswer, firstPlaceAt, FillCall, fill}
 use Rattle.model.specs.Transfers.{Lists, TransferCall, TransferAnswer, ofCounts, ofRoom, transfers, withEntries, listsAfter}
@@ -190,12 +190,14 @@ plainListsAfter c =
 
 -- ---- the law
 
--- a cyclic template and no bounds, as document 01 has it: its question 4 turns a negative offset away, which A1 lets pass
+-- a cyclic template and no bounds, as document 01 has it: its question 4 turns a negative offset away, which A1 lets pass, and
+-- lets pass a stride that A6 turns away
 pub record Plain (m : Mapping) : Type 0 where
   pub block : ℤ
   pub dealing : m .dealing ≡ cyclic block
   pub lower : m .lower ≡ pos 0
   pub origin : m .origin ≡ pos 0
+  pub stride : leZ (m .stride) (pos mostStride) ≡ true
   pub offset : leZ (pos 0) (m .offset) ≡ true
 
 -- A fill of bytes is by definition the fill of their words (ByteFills), which knows nothing of bounds.

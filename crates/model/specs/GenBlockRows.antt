@@ -165,6 +165,8 @@ genBlockRows =
     ∷ mapping (runs 10 1025 [] 0 0 0 11 (pos 0) (pos 0)) 2
     ∷ mapping (runs 10 3 (pos 4 ∷ pos 0 ∷ pos 5 ∷ []) 0 0 0 11 (pos 0) (pos 0)) 16
     ∷ mapping (runs 10 3 (pos 4 ∷ pos 0 ∷ pos 6 ∷ []) 0 0 0 11 (pos 0) (pos 0)) 4
+    ∷ mapping (runs 10 3 (pos 4 ∷ pos 0 ∷ pos 6 ∷ []) 0 4096 0 1 (pos 0) (pos 0)) 0
+    ∷ mapping (runs 10 3 (pos 4 ∷ pos 0 ∷ pos 6 ∷ []) 0 4097 0 1 (pos 0) (pos 0)) 4
     ∷ mapping (mapped 10 3 0 0 0 11) 3
     ∷ owned (three (pos 4 ∷ pos 0 ∷ pos 5 ∷ [])) (pos 0) 16 0 0
     ∷ report (on (three (pos 4 ∷ pos 0 ∷ pos 5 ∷ [])) (pos 0) (pos 9) (pos 0)) (pos 16 ∷ replicate 8 (pos 0))

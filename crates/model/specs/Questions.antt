@@ -45,6 +45,10 @@ most = pos 2147483647
 abbrev pub least : ℤ
 least = negsuc 2147483646
 
+-- 4: the largest alignment stride
+abbrev pub mostStride : ℕ
+mostStride = 4096
+
 -- 3, of a cyclic template's block; "3 does not concern" a GEN_BLOCK template
 abbrev pub blockFits : Dealing → Bool
 blockFits (cyclic k) = between (pos 1) (pos 65536) k
@@ -83,7 +87,7 @@ ofMapping m =
     ∷ ask 2 (between (pos 1) (pos 1024) (m .processors))
     ∷ ask 3 (blockFits (m .dealing))
     ∷ ask 16 (runsFit (m .cells) (m .processors) (m .dealing))
-    ∷ ask 4 (between (pos 1) most (m .stride) && between least most (m .offset))
+    ∷ ask 4 (between (pos 1) (pos mostStride) (m .stride) && between least most (m .offset))
     ∷ ask 5 (between (pos 0) most (m .size))
     ∷ ask 15 (boundsFit m)
     ∷ ask 5 (cellsFit m)

@@ -269,4 +269,9 @@ table =
     -- either list too short by one
     ∷ saves pictured (30 ∷ 34 ∷ 31 ∷ 32 ∷ 35 ∷ 36 ∷ 33 ∷ []) 8 13 8 (77 ∷ 77 ∷ 77 ∷ 77 ∷ 77 ∷ 77 ∷ 77 ∷ 77 ∷ [])
     ∷ loads pictured (30 ∷ 31 ∷ 32 ∷ 33 ∷ 34 ∷ 35 ∷ 36 ∷ 37 ∷ []) 7 13 8 (77 ∷ 77 ∷ 77 ∷ 77 ∷ 77 ∷ 77 ∷ 77 ∷ [])
+    -- document 02, A6: the largest stride, and one more; one element of a section that goes on by 2,147,483,647 times 4,096 cells
+    ∷ mapping (mapped 4097 2 1 4096 0 2) 0
+    ∷ mapping (mapped 4097 2 1 4097 0 1) 4
+    ∷ steps (on (mapped 4097 2 1 4096 0 2) (pos 1) (pos 1) (pos 2147483647)) NoStep
+    ∷ fills (on (mapped 4097 2 1 4096 0 2) (pos 1) (pos 1) (pos 2147483647)) 0 0 (100 ∷ []) (1 ∷ []) 1 1
     ∷ []

@@ -108,14 +108,11 @@ sum-le (suc n) k m a b h =
 
 module _ (n m a b : ℕ) (fits : SumFits n m a b) where
   pub sum-fits : floorSum n m a b < 2 ^ 64
-  sum-fits =
-      let terms : n ≤ 2 ^ 31 - 1 = omega arith in
-      let last : a * n + b ≤ 2 ^ 33 - 1 = omega arith in
-      omega (arith, sum-le n n m a b (le-refl n), mul-le-mul terms last)
+  sum-fits = omega (arith, sum-le n n m a b (le-refl n), fits .total)
 
   pub square-fits : n * n < 2 ^ 64
   square-fits =
-      let terms : n ≤ 2 ^ 31 = omega arith in
+      let terms : n ≤ 2 ^ 32 - 1 = omega (arith, fits .terms) in
       omega (arith, mul-le-mul terms terms)
 
   pub whole-fits : tri n * (a / m) + n * (b / m) < 2 ^ 64
@@ -139,11 +136,14 @@ module _ (n m a b : ℕ) (fits : SumFits n m a b) where
     rem-pos = ⊎-elim (λ z. absurd (omega (arith, mod-lt b (fits .divisor), ap (λ (x : ℕ). x * n) z))) (λ h. h) (eq-zero-or-pos (a % m))
 
     pub next-fits : SumFits ((a % m * n + b % m) / m) (a % m) m ((a % m * n + b % m) % m)
-    next-fits = record {
-      divisor = rem-pos;
-      terms = omega (arith, top-div);
-      last = omega (arith, top-eq, top-le);
-    }
+    next-fits =
+        let le : m * ((a % m * n + b % m) / m) + (a % m * n + b % m) % m ≤ a * n + b = omega (arith, top-eq, top-le) in
+        let fewer : suc ((a % m * n + b % m) / m) ≤ suc n = omega (arith, top-div) in
+        record {
+          divisor = rem-pos;
+          terms = omega (arith, top-div, fits .terms);
+          total = omega (arith, mul-le-mul fewer le, fits .total);
+        }
 
     pub sum-step : floorSum n m a b ≡ (tri n * (a / m) + n * (b / m)) + floorSum ((a % m * n + b % m) / m) (a % m) m ((a % m * n + b % m) % m)
     sum-step =

@@ -14,5 +14,5 @@ tri (suc n) = tri n + n
 -- numbers for which the sum below n, and each number on the way to it, fits 64 bits
 pub record SumFits (n m a b : ℕ) : Type 0 where
   pub divisor : 0 < m
-  pub terms : n < 2 ^ 31
-  pub last : a * n + b < 2 ^ 33
+  pub terms : n < 2 ^ 32
+  pub total : suc n * (a * n + b) < 2 ^ 64

@@ -1,17 +1,16 @@
 -- A section as an array of its own: its numbers are in range, and it has the same owners, downwards in turned order.
-use Prim.Native.Nat.{ℕ, zero, suc, _+_, _-_, _*_, _≤_, _<_}
+use Prim.Native.Nat.{ℕ, zero, suc, _+_, _-_, _*_, _<_}
 use mathlib.Core.Path.{_≡_, refl, sym, ap, _∙_}
 use mathlib.Core.Bool.{Bool, true, false, cond}
 use native.Mathlib.Omega.{arith}
-use lib.Dec.{ltb, eqb}
-use borrow.Author.Tests.{ltb-true, ltb-false}
+use lib.Dec.{eqb}
 use Rattle.numbers.specs.Search.{tally}
 use Rattle.numbers.proofs.SearchLaws.{tally-none, tally-next, tally-same}
 use Rattle.model.specs.Ownership.{cellOf, cellOwner, ownerOf, owns, held}
 use Rattle.model.specs.Sized.{Sized}
 use Rattle.section.specs.declared.questions.Strided.{Strided}
 use Rattle.section.specs.Strides.{Bounded, cellAt, ownedAt}
-use Rattle.section.specs.Elements.{lowest, strideIn, lineOf}
+use Rattle.section.specs.Elements.{lowest, lineOf}
 use Rattle.section.proofs.StridedLaws.{cells-rise, cells-fall, cell-inside}
 use Rattle.section.proofs.GoingLaws.{spread-pos}
 
@@ -47,15 +46,7 @@ module _ (w : Strided) (b : Bounded w) (some : 0 < w .count) where
   S = w .layout .stride * w .stride
 
   abbrev line : ℕ → ℕ
-  line i = strideIn w * i + cellAt w (lowest w)
-
-  -- how far i strides reach
-  reach : (i : ℕ) → i < w .count → strideIn w * i ≡ i * S
-  reach i h = go (ltb (w .count) 2) refl
-    where
-      go : (t : Bool) → ltb (w .count) 2 ≡ t → cond t 1 S * i ≡ i * S
-      go true e = let z : i ≡ 0 = omega (arith, ltb-true (w .count) 2 e) in rw z (omega arith)
-      go false e = omega arith
+  line i = S * i + cellAt w (lowest w)
 
   pub lowest-lt : lowest w < w .count
   lowest-lt = go (w .upward)
@@ -69,7 +60,7 @@ module _ (w : Strided) (b : Bounded w) (some : 0 < w .count) where
 
   -- the cells, from the lowest on
   line-up : w .upward ≡ true → (i : ℕ) → i < w .count → line i ≡ cellAt w i
-  line-up up i h = omega (arith, reach i h, lowest-is true up, cells-rise w up i)
+  line-up up i h = omega (arith, lowest-is true up, cells-rise w up i)
 
   line-down : w .upward ≡ false → (i : ℕ) → i < w .count → line i ≡ cellAt w (w .count - 1 - i)
   line-down down i h =
@@ -77,7 +68,6 @@ module _ (w : Strided) (b : Bounded w) (some : 0 < w .count) where
       let there : n ≡ (n - i) + i = omega arith in
       omega (
         arith,
-        reach i h,
         lowest-is false down,
         ap (λ (j : ℕ). j * S) there,
         cells-fall w b down n (omega arith),
@@ -92,13 +82,6 @@ module _ (w : Strided) (b : Bounded w) (some : 0 < w .count) where
       go true e = omega (arith, line-up e (w .count - 1) (omega arith), cell-inside w b (w .count - 1) (omega arith))
       go false e = omega (arith, line-down e (w .count - 1) (omega arith), cell-inside w b (w .count - 1 - (w .count - 1)) (omega arith))
 
-  stride-range : (0 < strideIn w) × (strideIn w ≤ 2147483647)
-  stride-range = go (ltb (w .count) 2) refl
-    where
-      go : (t : Bool) → ltb (w .count) 2 ≡ t → (0 < cond t 1 S) × (cond t 1 S ≤ 2147483647)
-      go true e = (omega arith, omega arith)
-      go false e = (spread-pos w b, omega (arith, b .spread-high (ltb-false (w .count) 2 e)))
-
   pub line-sized : Sized (lineOf w)
   unfolding lineOf
   line-sized =
@@ -110,8 +93,9 @@ module _ (w : Strided) (b : Bounded w) (some : 0 < w .count) where
         processors-high = z .processors-high;
         block-pos = z .block-pos;
         block-high = z .block-high;
-        stride-pos = stride-range .0;
-        stride-high = stride-range .1;
+        stride-pos = spread-pos w b;
+        stride-high = b .spread-fits;
+        offset-high = omega (arith, cell-inside w b (lowest w) lowest-lt, z .cells-high);
         size-high = b .count-high;
         inside = λ h. line-inside;
       }

@@ -16,7 +16,7 @@ use Rattle.model.specs.Steps.{spread, upward, cyclicSteps}
 use Rattle.model.specs.Questions.{firstNo, ofSection}
 use Rattle.model.proofs.AcceptedLaws.{Accepted, accepted}
 use Rattle.model.proofs.WalkTheorem.{cyclicOwns}
-use Rattle.model.proofs.SectionLaws.{Moved, index-lt, index-moved, spread-high}
+use Rattle.model.proofs.SectionLaws.{Moved, index-lt, index-moved, spread-fits, spread-high}
 use Rattle.section.specs.Strides.{stridedOf, Bounded, moved, indexAt, cellAt, ownedAt, placeIn, stepsIn}
 
 module _ (x : Section) (ok : firstNo (ofSection x) ≡ 0) where
@@ -64,6 +64,7 @@ module _ (x : Section) (ok : firstNo (ofSection x) ≡ 0) where
         first-inside = λ h. index-lt x ok 0 h;
         rises = λ e h. omega (arith, run-up e (count x - 1) (omega arith), index-lt x ok (count x - 1) (omega arith));
         falls = λ e h. omega (arith, run-down e (count x - 1) (omega arith));
+        spread-fits = spread-fits x ok;
         spread-high = spread-high x ok;
       }
 

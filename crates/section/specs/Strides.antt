@@ -1,5 +1,5 @@
 -- A section that passed its questions, on natural numbers. Definitions only.
-use Prim.Native.Nat.{ℕ, _+_, _-_, _*_, _≤_, _<_}
+use Prim.Native.Nat.{ℕ, _+_, _-_, _*_, _^_, _≤_, _<_}
 use mathlib.Core.Path.{_≡_}
 use mathlib.Core.Bool.{Bool, true, false, _&&_, _||_}
 use lib.Dec.{eqb}
@@ -43,6 +43,8 @@ pub record Bounded (w : Strided) : Type 0 where
   pub first-inside : 0 < w .count → w .first < w .layout .size
   pub rises : w .upward ≡ true → 0 < w .count → w .first + (w .count - 1) * w .stride < w .layout .size
   pub falls : w .upward ≡ false → 0 < w .count → (w .count - 1) * w .stride ≤ w .first
+  -- of one element alone too
+  pub spread-fits : w .layout .stride * w .stride < 2 ^ 43
   -- two elements lie in the template, so that their distance does
   pub spread-high : 2 ≤ w .count → w .layout .stride * w .stride < 2147483648
 

@@ -4,7 +4,7 @@ ghost use mathlib.Core.Path.{_≡_};
 ghost use Prim.Native.Nat.{_<_};
 ghost use Rattle.numbers.specs.Search.{tally};
 ghost use Rattle.section.specs.Strides.{Bounded, ownedAt};
-ghost use Rattle.section.specs.Elements.{lowest, strideIn, lineOf};
+ghost use Rattle.section.specs.Elements.{lowest, lineOf};
 use crate::positions::cell_at;
 use crate::questions::Strided;
 use crate::strides::spread_of;
@@ -24,17 +24,6 @@ fn lowest_in(w: Strided) -> Position
     Position(w.count - 1)
 }
 
-// How many cells lie from one element to the next. One alone has no next, and any number does.
-fn stride_in(w: Strided) -> u64
-    requires { ⌜ Bounded w ⌝ }
-    ensures { λ r. ⌜ r ≡ strideIn w ⌝ }
-{
-    if w.count < 2 {
-        return 1;
-    }
-    spread_of(w)
-}
-
 // The section as an array.
 fn line_of(w: Strided) -> Layout
     requires { ⌜ Bounded w × (0 < w .count) ⌝ }
@@ -45,7 +34,7 @@ fn line_of(w: Strided) -> Layout
         cells: l.cells,
         processors: l.processors,
         block: l.block,
-        stride: stride_in(w),
+        stride: spread_of(w),
         offset: cell_at(w, lowest_in(w)).0,
         size: w.count,
     }

@@ -5,7 +5,8 @@ ghost use Prim.Native.Nat.{_≤_};
 ghost use lib.ListN.{length};
 ghost use Rattle.model.specs.Sized.{Sized};
 ghost use Rattle.storage.specs.Copying.{StartsIn};
-use mapping::parts::elements_on;
+use mapping::dealing::held_below;
+use model::Index;
 use model::Layout;
 
 // Each pointer at the start of its processor's words.
@@ -19,7 +20,7 @@ pub fn set_starts(l: Layout, row: &mut [u32])
     let mut start: usize = 0;
     while q < processors {
         row[q] = start as u32;
-        start += elements_on(l, q as u64) as usize;
+        start += held_below(l, q as u64, Index(l.size)) as usize;
         q += 1;
     }
 }

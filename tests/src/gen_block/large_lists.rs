@@ -13,6 +13,7 @@ use crate::gen_block::section_library::Fill;
 use crate::library::{Counted, Found, Owned};
 use crate::memory::Memory;
 use crate::processor_list::List;
+use crate::questions::LARGEST_STRIDE;
 use crate::section_comparison::Filling;
 use crate::section_library::{Placed, Triplet};
 use crate::transfer_enumeration::Places;
@@ -26,8 +27,8 @@ const ALIGNMENTS: [[i64; 3]; 5] = [
     [1, 0, 0],
     [1, 1, 1],
     [3, -5, 0],
-    [65_537, 0, -LARGEST],
-    [LARGEST - 1, 0, 0],
+    [4_093, 0, -LARGEST],
+    [LARGEST_STRIDE, 0, 0],
 ];
 
 /// Sizes, a section of 3,000,000 elements on as many cells, and a processor whose list is

@@ -12,7 +12,7 @@ use crate::gen_block::library::GenBlock;
 use crate::gen_block::section_library::Fill;
 use crate::gen_block::sizes::Sizes;
 use crate::memory::Memory;
-use crate::questions::of_copy;
+use crate::questions::{of_copy, LARGEST_STRIDE};
 use crate::section_library::Triplet;
 use crate::special_numbers::combine;
 
@@ -53,7 +53,7 @@ const LEFT_OVER: [i64; 7] = [-3, -2, -1, 0, 1, 2, 3];
 const MAPPINGS: [&[i64]; 7] = [
     &[0, 1, 96, LARGEST, LARGEST + 1],
     &[i64::MIN, 0, 1, 3, 1_024, 1_025, (1 << 62) + 3],
-    &[0, 5, LARGEST + 1],
+    &[0, 5, LARGEST_STRIDE, LARGEST_STRIDE + 1],
     &[-LARGEST - 1, -1, 2],
     &[-1, 0, 1, 19, 20, LARGEST + 1],
     &[0, LARGEST + 1],

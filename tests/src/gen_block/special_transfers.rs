@@ -7,6 +7,7 @@ use crate::gen_block::sizes::Sizes;
 use crate::gen_block::special_lists::whole_lists;
 use crate::gen_block::transfer_library::{Side, Transfer};
 use crate::library::Mapping;
+use crate::questions::LARGEST_STRIDE;
 use crate::section_library::Triplet;
 use crate::special_numbers::combine;
 
@@ -19,7 +20,7 @@ const LEFT: [&[i64]; 8] = [
     &[96, 0],
     &[3, 1_025],
     &[4, 0],
-    &[5, LARGEST + 1],
+    &[5, LARGEST_STRIDE + 1],
     &[19, 20],
     &[0, LARGEST - 17],
     &[-3, 0],

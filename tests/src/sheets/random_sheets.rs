@@ -9,7 +9,7 @@ use super::sheet::{NamingLine, Sheet};
 use crate::comparison::{Comparison, Difference};
 use crate::generator::Generator;
 use crate::library::Mapping;
-use crate::questions;
+use crate::questions::{self, LARGEST_STRIDE};
 use crate::random_bounds::{with_bounds, with_random_bounds};
 use crate::random_sections::random_triplet;
 use crate::section_enumeration;
@@ -104,8 +104,8 @@ fn random_template(generator: &mut Generator) -> [i64; 3] {
 /// room for.
 fn random_array(generator: &mut Generator, [cells, _, block]: [i64; 3]) -> [i64; 5] {
     let stride = match generator.below(20) {
-        0 => generator.up_to(LARGEST as u64),
-        1..4 => generator.within(1, 3) * block.clamp(1, 65_536) as u64,
+        0 => generator.up_to(LARGEST_STRIDE as u64),
+        1..4 => generator.within(1, 3) * block.clamp(1, LARGEST_STRIDE) as u64,
         4..10 => generator.within(1, 7),
         _ => 1,
     };
@@ -125,7 +125,7 @@ fn random_array(generator: &mut Generator, [cells, _, block]: [i64; 3]) -> [i64;
     let m = random_bounds(generator, &Mapping::of([cells, 1, 1, a, b, n, 0, 0]));
     let b = m.offset.clamp(-LARGEST, LARGEST);
     let limits = [
-        LARGEST,
+        LARGEST_STRIDE,
         LARGEST,
         LARGEST,
         LARGEST - n + 1,

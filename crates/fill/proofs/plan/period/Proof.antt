@@ -35,11 +35,7 @@ mul-t6 c = let s = c .before .before .before .before in omega (arith, fits c, s 
 held-below-requires : tie.Need-held-below-requires
 held-below-requires c κs =
     let s = c .before .before .before .before in
-    record {
-      dealt = record { sized = s .pre .0 .sized; processor = s .pre .1 };
-      index = fits c;
-      some = omega (arith, s .pre .0 .first-inside (omega (arith, c .before .before .if1 .left)));
-    }
+    record { dealt = record { sized = s .pre .0 .sized; processor = s .pre .1 }; index = fits c }
 
 returns-2 : tie.Need-returns-2
 returns-2 c = search needs

@@ -8,11 +8,11 @@ use Rattle.mapping.proofs.dealing.cell_of.Tie as tie
 
 mul-t3 : tie.Need-mul-t3
 unfolding cellOf
-mul-t3 c = let s = c .before .before in omega (arith, cell-high _ (s .pre .0) _ (s .pre .1 .0) (s .pre .1 .1))
+mul-t3 c = let s = c .before .before in omega (arith, cell-high _ (s .pre .0) _ (s .pre .1))
 
 add-t4 : tie.Need-add-t4
 unfolding cellOf
-add-t4 c = let s = c .before .before .before in omega (arith, cell-high _ (s .pre .0) _ (s .pre .1 .0) (s .pre .1 .1))
+add-t4 c = let s = c .before .before .before in omega (arith, cell-high _ (s .pre .0) _ (s .pre .1))
 
 returns : tie.Need-returns
 unfolding cellOf

@@ -1,7 +1,7 @@
 -- `course_sum` meets its contract: the floor sum over the elements' cells is within its bounds. Assumes nothing.
 use native.Mathlib.Omega.{arith}
 use borrow.Author.Needs.{needs}
-use Rattle.model.proofs.SizedLaws.{blocks-le, course-high, offset-high}
+use Rattle.model.proofs.SizedLaws.{blocks-le, course-high}
 use Rattle.mapping.proofs.CourseSums.{sum-bounds}
 use Rattle.mapping.proofs.dealing.course_sum.Statement.{statement}
 use Rattle.mapping.proofs.dealing.course_sum.Tie as tie
@@ -15,7 +15,7 @@ mul-floor-sum c = let s = c .before .before in omega (arith, blocks-le _ (s .pre
 add-floor-sum : tie.Need-add-floor-sum
 add-floor-sum c =
     let s = c .before .before .before in
-    omega (arith, blocks-le _ (s .pre .sized) _ (s .pre .blocks), offset-high _ (s .pre .sized) (s .pre .some))
+    omega (arith, blocks-le _ (s .pre .sized) _ (s .pre .blocks), s .pre .sized .offset-high)
 
 floor-sum-requires : tie.Need-floor-sum-requires
 floor-sum-requires c κs = sum-bounds _ _ _ (c .before .before .before .pre)

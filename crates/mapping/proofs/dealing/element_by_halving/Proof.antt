@@ -29,7 +29,7 @@ add-middle : tie.Need-add-middle Inv-loop μ-loop
 add-middle c = omega arith
 
 held-below-requires : tie.Need-held-below-requires Inv-loop μ-loop
-held-below-requires c κs = record { dealt = c .before .before .pre .dealt; index = omega arith; some = omega arith }
+held-below-requires c κs = record { dealt = c .before .before .pre .dealt; index = omega arith }
 
 loop-less : tie.Need-loop-less Inv-loop μ-loop
 loop-less c = omega arith

@@ -5,8 +5,8 @@ use native.Mathlib.Omega.{arith}
 use borrow.Author.Needs.{needs}
 use Rattle.model.specs.Ownership.{cellOwner, ownerOf}
 use Rattle.model.proofs.HeldLaws.{held-le}
-use Rattle.model.proofs.SizedLaws.{course-high, offset-high}
-use Rattle.mapping.proofs.CellLaws.{Led, stored-some, led}
+use Rattle.model.proofs.SizedLaws.{course-high}
+use Rattle.mapping.proofs.CellLaws.{Led, led}
 use Rattle.mapping.proofs.dealing.cells_below.Reads as cells-below
 use Rattle.mapping.proofs.dealing.element_directly.Reads as reads
 use Rattle.mapping.proofs.dealing.element_directly.Lts as lts
@@ -32,7 +32,7 @@ add-nth c =
       c .before .cells-below .ensures,
       held-le (cellOwner l) (s .args .q) (l .offset),
       held-le (ownerOf l) (s .args .q) (l .size),
-      offset-high l (s .pre .0 .dealt .sized) (stored-some (s .pre .0)),
+      s .pre .0 .dealt .sized .offset-high,
     )
 
 mul-course : tie.Need-mul-course

@@ -23,7 +23,6 @@ held-below-requires c κs =
         processor = omega (arith, c .owner-of .ensures, cell-owner-lt (s .args .l) (s .pre .0 .processors-pos) (c .before .cell-of .result .0));
       };
       index = omega (arith, s .pre .1);
-      some = omega (arith, s .pre .1);
     }
 
 returns : tie.Need-returns

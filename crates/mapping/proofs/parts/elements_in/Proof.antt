@@ -1,5 +1,6 @@
 -- `elements_in` meets its contract.
 use mathlib.Core.Path.{sym, ap, _∙_, subst}
+use native.Mathlib.Nat.{le-refl}
 use borrow.Author.Needs.{needs}
 use Rattle.mapping.specs.Parts.{heldIn, Low}
 use Rattle.mapping.proofs.parts.elements_in.Statement.{statement}
@@ -8,8 +9,8 @@ use Rattle.mapping.proofs.parts.elements_in.Tie as tie
 enum-told : tie.Need-enum-told
 enum-told c = search needs
 
-elements-on-requires : tie.Need-elements-on-requires
-elements-on-requires c κs = search needs
+held-below-requires : tie.Need-held-below-requires
+held-below-requires c κs = record { dealt = c .before .before .pre .0; index = le-refl _ }
 
 enum-known-part : tie.Need-enum-known-part
 enum-known-part c = search needs
@@ -23,7 +24,7 @@ elements-along-requires c κs =
 returns : tie.Need-returns
 returns c =
     let s = c .before .before .before in
-    c .elements-on .ensures ∙ sym (ap (heldIn (s .args .l) (s .args .q)) (c .before .enum-told .given .1))
+    c .held-below .ensures ∙ sym (ap (heldIn (s .args .l) (s .args .q)) (c .before .enum-told .given .1))
 
 returns-2 : tie.Need-returns-2
 returns-2 c =
@@ -35,7 +36,7 @@ elements-in-spec =
     tie.close
     (tie.spec
     enum-told
-    elements-on-requires
+    held-below-requires
     enum-known-part
     elements-along-requires
     returns

@@ -7,7 +7,7 @@ use Rattle.mapping.proofs.parts.home_in_blocks.Statement.{statement}
 use Rattle.mapping.proofs.parts.home_in_blocks.Tie as tie
 
 cell-of-requires : tie.Need-cell-of-requires
-cell-of-requires c κs = (c .pre .0, (omega (arith, c .pre .1), omega (arith, c .pre .1)))
+cell-of-requires c κs = (c .pre .0, omega (arith, c .pre .1))
 
 owner-of-requires : tie.Need-owner-of-requires
 owner-of-requires c κs = search needs

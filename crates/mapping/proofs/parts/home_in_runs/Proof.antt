@@ -18,7 +18,7 @@ use Rattle.mapping.proofs.parts.home_in_runs.Statement.{statement}
 use Rattle.mapping.proofs.parts.home_in_runs.Tie as tie
 
 cell-of-requires : tie.Need-cell-of-requires
-cell-of-requires c κs = let s = c .before in (s .pre .1, (omega (arith, s .pre .2), omega (arith, s .pre .2)))
+cell-of-requires c κs = let s = c .before in (s .pre .1, omega (arith, s .pre .2))
 
 -- the list passed question 16, and the element's cell lies in a run
 listed : (s : tie.Start) → Fitting (s .args .l .cells) (s .args .l .processors) (s .args .sizes .now)

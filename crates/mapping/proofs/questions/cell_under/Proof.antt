@@ -1,5 +1,5 @@
 -- `cell_under` meets its contract: product, sum and difference fit, so that each is read back as the number it is.
-use Prim.Native.Nat.{_+_, _*_, _≤_}
+use Prim.Native.Nat.{_^_, _≤_}
 use mathlib.Core.Path.{_≡_}
 use native.Mathlib.Omega.{arith}
 use lib.IntN.{ℤ, natAbs, _+ℤ_, _-ℤ_, _*ℤ_}
@@ -8,6 +8,7 @@ use mir.Val.{SFits}
 use mir.ValLaws.{toZ-ofZ}
 use Rattle.numbers.proofs.Division.{product-le}
 use Rattle.numbers.proofs.Signed.{size-add, size-sub, size-mul, small-fits, back, fits-as, back-as}
+use Rattle.model.specs.Questions.{mostStride}
 use Rattle.mapping.proofs.questions.cell_under.Statement.{statement}
 use Rattle.mapping.proofs.questions.cell_under.Tie as tie
 
@@ -15,9 +16,9 @@ module _ (c : tie.Start) where
   further : ℤ
   further = c .args .a *ℤ c .args .j
 
-  far : natAbs further ≤ 2147483647 * 2147483647
+  far : natAbs further ≤ 2 ^ 43
   unfolding further
-  far = omega (arith, size-mul (c .args .a) (c .args .j), product-le 2147483647 2147483647 (c .pre .stride) (c .pre .index))
+  far = omega (arith, size-mul (c .args .a) (c .args .j), product-le mostStride 2147483647 (c .pre .stride) (c .pre .index))
 
   product : back w64 (c .args .a) *ℤ back w64 (c .args .j) ≡ further
   unfolding further
@@ -33,7 +34,7 @@ module _ (c : tie.Start) where
   unfolding on
   sum = λ i. back-as w64 product product-fits i +ℤ toZ-ofZ w64 (c .args .b) (c .fits .b) i
 
-  on-small : natAbs on ≤ 2147483647 * 2147483647 + 2147483647
+  on-small : natAbs on ≤ 2 ^ 44
   unfolding on
   on-small = omega (arith, far, size-add further (c .args .b), c .pre .offset)
 

@@ -6,7 +6,7 @@ use borrow.Author.Needs.{needs}
 use borrow.Author.Tests.{not-true, not-false}
 use lib.IntN.{pos}
 use Rattle.model.specs.Mappings.{dealingWith}
-use Rattle.model.specs.Questions.{between, most, least, blockFits, firstNo}
+use Rattle.model.specs.Questions.{between, most, least, mostStride, blockFits, firstNo}
 use Rattle.mapping.proofs.Signs.{said-no, said-yes}
 use Rattle.mapping.proofs.questions.dealing_refusal.Statement.{statement}
 use Rattle.mapping.proofs.questions.dealing_refusal.Tie as tie
@@ -88,13 +88,13 @@ returns-5 c =
       processors-hold (e2 e4),
       block-holds (e3 e4),
       not-false (s .args .listed) (e4 .if4 .left),
-      said-no (between (pos 1) most) (s .args .a) (s .fits .a) (c .before .within3 .ensures) (c .if5 .taken),
+      said-no (between (pos 1) (pos mostStride)) (s .args .a) (s .fits .a) (c .before .within3 .ensures) (c .if5 .taken),
     )
 
-stride-holds : (c : tie.Else5) → between (pos 1) most (start (c .before .before) .args .a) ≡ true
+stride-holds : (c : tie.Else5) → between (pos 1) (pos mostStride) (start (c .before .before) .args .a) ≡ true
 stride-holds c =
     let s = start (c .before .before) in
-    said-yes (between (pos 1) most) (s .args .a) (s .fits .a) (c .before .within3 .ensures) (c .if5 .left)
+    said-yes (between (pos 1) (pos mostStride)) (s .args .a) (s .fits .a) (c .before .within3 .ensures) (c .if5 .left)
 
 sub-within : tie.Need-sub-within
 sub-within c = search needs

@@ -12,7 +12,7 @@ use mir.ValLaws.{toZ-ofZ}
 use Rattle.numbers.proofs.Tests.{both-true}
 use Rattle.model.specs.Mappings.{cyclic, dealingWith, Mapping}
 use Rattle.model.specs.Ownership.{cellUnder, lastIndex, lastCell}
-use Rattle.model.specs.Questions.{AllYes, between, most, least, firstNo, boundsFit, cellsFit}
+use Rattle.model.specs.Questions.{AllYes, between, most, least, mostStride, firstNo, boundsFit, cellsFit}
 use Rattle.model.proofs.QuestionLaws.{between-is, size-is}
 use Rattle.model.proofs.AcceptedLaws.{bounds-of}
 use Rattle.mapping.specs.Answers.{mappingOf, ofDealing}
@@ -63,21 +63,21 @@ sized c =
     let s = start c in said-yes (between (pos 0) most) (s .args .n) (s .fits .n) (c .before .within .ensures) (c .if2 .left)
 
 -- a number from 0 on is as small as its question says
-natural-small : (low : ℕ) (z : ℤ) → between (pos low) most z ≡ true → natAbs z ≤ 2147483647
-natural-small low z e = let w = between-is low 2147483647 z e in omega (arith, w .upto, ap natAbs (w .whole))
+natural-small : (low high : ℕ) (z : ℤ) → between (pos low) (pos high) z ≡ true → natAbs z ≤ high
+natural-small low high z e = let w = between-is low high z e in omega (arith, w .upto, ap natAbs (w .whole))
 
 module _ (c : tie.Else2) where
   yes-all : AllYes (first (start c .args .listed) (asked (start c)))
   yes-all = dealing-yes (start c .args .listed) (asked (start c)) (dealt (c .before .before))
 
   size-small : natAbs (start c .args .n) ≤ 2147483647
-  size-small = natural-small 0 (start c .args .n) (sized c)
+  size-small = natural-small 0 2147483647 (start c .args .n) (sized c)
 
 bounds-fit-requires : tie.Need-bounds-fit-requires
 bounds-fit-requires c κs =
     let s = start c in
     rw (toZ-ofZ w64 (s .args .t) (s .fits .t), toZ-ofZ w64 (s .args .n) (s .fits .n))
-    (natural-small 1 (s .args .t) (yes-all c .0), size-small c)
+    (natural-small 1 2147483647 (s .args .t) (yes-all c .0), size-small c)
 
 -- the answer to question 15
 bounds : (c : tie.After-bounds-fit) → c .bounds-fit .result ≡ boundsFit (asked (start (c .before)))
@@ -108,10 +108,10 @@ reached c =
     let e2 = c .before .before in
     let s = start e2 in
     let w = bounds-of (asked s) (bounded c) in
-    let four = both-true (between (pos 1) most (s .args .a)) (between least most (s .args .b)) (yes-all e2 .1 .1 .1 .1 .0) in
+    let four = both-true (between (pos 1) (pos mostStride) (s .args .a)) (between least most (s .args .b)) (yes-all e2 .1 .1 .1 .1 .0) in
     record {
       first = record {
-        stride = natural-small 1 (s .args .a) (four .0);
+        stride = natural-small 1 mostStride (s .args .a) (four .0);
         offset = size-is (s .args .b) (four .1);
         origin = w .origin;
         index = w .lower;

@@ -15,7 +15,7 @@ use Rattle.model.specs.Mappings.{dealingWith, Mapping}
 use Rattle.model.specs.declared.Layout.{Layout}
 use Rattle.model.specs.Ownership.{nat, cellUnder, blockIn, layoutOf}
 use Rattle.model.specs.Questions.{firstNo, ofMapping}
-use Rattle.model.proofs.AcceptedLaws.{whole-mapping, bounds-in, offset-small, mapped}
+use Rattle.model.proofs.AcceptedLaws.{stride-in, bounds-in, offset-small, mapped}
 use Rattle.mapping.specs.declared.questions.Mapped.the-variants.{By, Refused}
 use Rattle.mapping.specs.Answers.{mappingOf, ofListed, mappedOf, Sound}
 use Rattle.mapping.specs.Bounds.{Aligned}
@@ -85,7 +85,7 @@ aligned : (m : Mapping) → firstNo (ofMapping m) ≡ 0 → Aligned (m .stride) 
 aligned m ok =
     let b = bounds-in m ok in
     record {
-      stride = omega (arith, ap natAbs (whole-mapping m ok .stride), mapped m ok .stride-high);
+      stride = omega (arith, ap natAbs (stride-in m ok .whole), stride-in m ok .upto);
       offset = offset-small m ok;
       origin = b .origin;
       index = b .lower;

@@ -11,8 +11,7 @@ use Rattle.numbers.proofs.Signed.{read-of}
 use Rattle.model.specs.Mappings.{sizesOf}
 use Rattle.model.specs.Ownership.{nat}
 use Rattle.model.specs.Questions.{between, sizesFit}
-use Rattle.model.proofs.QuestionLaws.{between-is}
-use Rattle.mapping.proofs.Signs.{natural-le}
+use Rattle.model.proofs.QuestionLaws.{natural-le, between-is}
 use Rattle.mapping.proofs.questions.runs_fit.Statement.{statement}
 use Rattle.mapping.proofs.questions.runs_fit.Tie as tie
 

@@ -26,7 +26,7 @@ held-below-requires c κs =
     let s = c .before .before .before in
     let some = pos-of-ne-zero (c .before .if1 .left) in
     let sized = line-sized (s .args .w) (s .pre .0) some in
-    rw (c .line-of .ensures) (record { dealt = record { sized = sized; processor = s .pre .1 }; index = le-refl _; some = some })
+    rw (c .line-of .ensures) (record { dealt = record { sized = sized; processor = s .pre .1 }; index = le-refl _ })
 
 returns-2 : tie.Need-returns-2
 returns-2 c =

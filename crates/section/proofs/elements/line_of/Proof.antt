@@ -7,8 +7,8 @@ use Rattle.section.proofs.ElementLaws.{lowest-lt}
 use Rattle.section.proofs.elements.line_of.Statement.{statement}
 use Rattle.section.proofs.elements.line_of.Tie as tie
 
-stride-in-requires : tie.Need-stride-in-requires
-stride-in-requires c κs = search needs
+spread-of-requires : tie.Need-spread-of-requires
+spread-of-requires c κs = search needs
 
 lowest-in-requires : tie.Need-lowest-in-requires
 lowest-in-requires c κs = search needs
@@ -27,10 +27,10 @@ returns c =
       cells = w .layout .cells;
       processors = w .layout .processors;
       block = w .layout .block;
-      stride = c .before .before .stride-in .ensures i;
+      stride = c .before .before .spread-of .ensures i;
       offset = lowest i;
       size = w .count;
     }
 
 pub line-of-spec : {M : Type 1} → statement M
-line-of-spec = tie.close (tie.spec stride-in-requires lowest-in-requires cell-at-requires returns)
+line-of-spec = tie.close (tie.spec spread-of-requires lowest-in-requires cell-at-requires returns)

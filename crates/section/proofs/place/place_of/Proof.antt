@@ -20,8 +20,7 @@ cell-of-requires : tie.Need-cell-of-requires
 cell-of-requires c κs =
     let else1 = c .before .before in
     let b = else1 .before .before .pre .0 in
-    let inside = b .first-inside (pos-of-ne-zero (else1 .if1 .left)) in
-    (b .sized, (le-of-lt inside, omega (arith, inside)))
+    (b .sized, le-of-lt (b .first-inside (pos-of-ne-zero (else1 .if1 .left))))
 
 rem-c : tie.Need-rem-c
 rem-c c =

@@ -1,7 +1,6 @@
 -- `cell_at` meets its contract.
 use mathlib.Core.Path.{ap, _∙_}
 use native.Mathlib.Nat.{le-of-lt}
-use native.Mathlib.Omega.{arith}
 use borrow.Author.Needs.{needs}
 use Rattle.model.specs.Ownership.{cellOf}
 use Rattle.section.specs.Strides.{cellAt}
@@ -16,7 +15,7 @@ cell-of-requires : tie.Need-cell-of-requires
 cell-of-requires c κs =
     let s = c .before .before in
     let inside = index-inside (s .args .w) (s .pre .bounded) (s .args .t .0) (s .pre .below) in
-    (s .pre .bounded .sized, (rw (c .index-at .ensures) (le-of-lt inside), omega (arith, inside)))
+    (s .pre .bounded .sized, rw (c .index-at .ensures) (le-of-lt inside))
 
 returns : tie.Need-returns
 unfolding cellAt

@@ -6,18 +6,13 @@ use native.Mathlib.Numerals.{add-one}
 use native.Mathlib.Omega.{arith}
 use borrow.Author.Needs.{needs}
 use Rattle.numbers.specs.Multiples.{multiplesBelow}
-use Rattle.numbers.proofs.Division.{product-le}
 use Rattle.section.specs.declared.questions.Strided.{Strided}
-use Rattle.section.specs.Strides.{Bounded, cellAt}
+use Rattle.section.specs.Strides.{cellAt}
 use Rattle.section.specs.Shares.{positionsTo}
 use Rattle.section.proofs.StridedLaws.{cell-inside}
 use Rattle.section.proofs.GoingLaws.{spread-pos}
 use Rattle.section.proofs.shares.positions_to.Statement.{statement}
 use Rattle.section.proofs.shares.positions_to.Tie as tie
-
--- the spread, even of one element, and a distance between cells can be added
-wide : (w : Strided) → Bounded w → w .layout .stride * w .stride ≤ 4611686014132420609
-wide w b = product-le 2147483647 2147483647 (b .sized .stride-high) (b .stride-high)
 
 cell-at-requires : tie.Need-cell-at-requires
 cell-at-requires c κs = record { bounded = c .pre .0; below = c .pre .1 }
@@ -40,7 +35,7 @@ module _ (c : tie.After-spread-of) where
   some = rw (c .spread-of .ensures) (spread-pos (start .args .w) (start .pre .0))
 
   sums : (d : ℕ) → d ≤ 8796093022208 → d + c .spread-of .result < 2 ^ 64
-  sums d h = omega (arith, c .spread-of .ensures, wide (start .args .w) (start .pre .0))
+  sums d h = omega (arith, c .spread-of .ensures, start .pre .0 .spread-fits)
 
 above-requires : tie.Need-above-requires
 above-requires c κs = search needs

@@ -1,14 +1,11 @@
--- `spread_of` meets its contract: the product of two numbers below 2^31 fits.
+-- `spread_of` meets its contract.
 use native.Mathlib.Omega.{arith}
 use borrow.Author.Needs.{needs}
-use Rattle.numbers.proofs.Division.{product-le}
 use Rattle.section.proofs.strides.spread_of.Statement.{statement}
 use Rattle.section.proofs.strides.spread_of.Tie as tie
 
 mul-result : tie.Need-mul-result
-mul-result c =
-    let b = c .before .pre in
-    omega (arith, product-le 2147483647 2147483647 (b .sized .stride-high) (b .stride-high))
+mul-result c = omega (arith, c .before .pre .spread-fits)
 
 returns : tie.Need-returns
 returns c = search needs

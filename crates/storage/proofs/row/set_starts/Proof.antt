@@ -1,6 +1,7 @@
 -- `set_starts` meets its contract. The invariant: the pointers below q are set, and start is that of q. The measure: those that are left.
 use Prim.Native.Nat.{_+_, _-_, _≤_}
 use mathlib.Core.Path.{_≡_, sym}
+use native.Mathlib.Nat.{le-refl}
 use native.Mathlib.Numerals.{add-one}
 use native.Mathlib.Omega.{arith}
 use Rattle.numbers.proofs.RangeSums.{sum-none}
@@ -47,20 +48,21 @@ slice-write-row c =
     let l = c .before in
     let s = l .before .before in omega (arith, c .loop-test .taken, s .pre .1, l .loop .inv .2 .long)
 
-elements-on-requires : tie.Need-elements-on-requires Inv-loop μ-loop
-elements-on-requires c κs = record { sized = c .before .before .before .pre .0; processor = c .loop-test .taken }
+held-below-requires : tie.Need-held-below-requires Inv-loop μ-loop
+held-below-requires c κs =
+    record { dealt = record { sized = c .before .before .before .pre .0; processor = c .loop-test .taken }; index = le-refl _ }
 
 -- the next start
-next-start : (c : tie.After-elements-on Inv-loop μ-loop) → let l : tie.At-loop Inv-loop μ-loop = c .before .before in
+next-start : (c : tie.After-held-below Inv-loop μ-loop) → let l : tie.At-loop Inv-loop μ-loop = c .before .before in
     let s : tie.Start Inv-loop μ-loop = l .before .before in
-    (l .loop .start + c .elements-on .result ≡ storageStart (ownerOf (s .args .l)) (s .args .l .size) (l .loop .q + 1))
+    (l .loop .start + c .held-below .result ≡ storageStart (ownerOf (s .args .l)) (s .args .l .size) (l .loop .q + 1))
     × (storageStart (ownerOf (s .args .l)) (s .args .l .size) (l .loop .q + 1) ≤ s .args .l .size)
 next-start c =
     let l = c .before .before in
     let s = l .before .before in
     let o = ownerOf (s .args .l) in
     let n = s .args .l .size in (
-      rw (add-one (l .loop .q)) (omega (arith, l .loop .inv .1, c .elements-on .ensures, start-next o n (l .loop .q))),
+      rw (add-one (l .loop .q)) (omega (arith, l .loop .inv .1, c .held-below .ensures, start-next o n (l .loop .q))),
       start-high o (s .args .l .processors) n (λ i h. cyclic-owner-lt (s .args .l) (s .pre .0 .processors-pos) i) (l .loop .q + 1)
           (omega (arith, c .before .loop-test .taken)),
     )
@@ -105,7 +107,7 @@ set-starts-spec =
     cast-row
     mul-row
     slice-write-row
-    elements-on-requires
+    held-below-requires
     add-start
     add-q
     loop-less

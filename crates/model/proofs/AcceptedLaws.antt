@@ -20,7 +20,7 @@ use Rattle.model.specs.Sized.{Sized}
 use Rattle.model.specs.Questions.{firstNo, AllYes, between, isBelow, most, least, mostStride, blockFits, sizesFit, runsFit, boundsFit, cellsFit, ofMapping}
 use Rattle.model.specs.Questions.{isIndex, inRange, endsFit, ofTriplet, ofSection}
 use Rattle.model.proofs.BoundLaws.{taken-off, index-from, last-declared, cell-further}
-use Rattle.model.proofs.QuestionLaws.{all-yes, both-yes, natural-le, Natural, between-is, size-is, Below, below-is, not-below, is-below}
+use Rattle.model.proofs.QuestionLaws.{all-yes, both-yes, natural-le, Natural, size-upto, between-is, size-is, Below, below-is, not-below, is-below}
 
 -- ---- a mapping
 
@@ -146,14 +146,13 @@ module _ (m : Mapping) (ok : firstNo (ofMapping m) ≡ 0) where
   first-high =
       let a = m .stride *ℤ m .lower in
       let c = a +ℤ m .offset in
-      let stride : natAbs (m .stride) ≤ mostStride = omega (arith, stride-in .upto, ap natAbs (stride-in .whole)) in
       omega (
         arith,
         natural-le (c -ℤ m .origin),
         size-sub c (m .origin),
         size-add a (m .offset),
         size-mul (m .stride) (m .lower),
-        product-le mostStride 2147483647 stride (bounds-in .lower),
+        product-le mostStride 2147483647 (size-upto stride-in) (bounds-in .lower),
         offset-small,
         bounds-in .origin,
       )

@@ -1,6 +1,6 @@
 -- Lists of questions, and numbers that a question found in a range.
 use Prim.Native.Nat.{ℕ, _≤_, _<_, zero-le}
-use mathlib.Core.Path.{_≡_, refl, sym, _∙_}
+use mathlib.Core.Path.{_≡_, refl, sym, ap, _∙_}
 use mathlib.Core.Bool.{Bool, true, false, not, _&&_, true≢false}
 use mathlib.Core.List.{List, [], _∷_, _++_}
 use native.Mathlib.Nat.{le-refl, not-suc-le-zero}
@@ -99,6 +99,9 @@ pub record Natural (z : ℤ) (low high : ℕ) : Type 0 where
   pub whole : z ≡ pos (nat z)
   pub from : low ≤ nat z
   pub upto : nat z ≤ high
+
+pub size-upto : {z : ℤ} {low high : ℕ} → Natural z low high → natAbs z ≤ high
+size-upto w = omega (arith, w .upto, ap natAbs (w .whole))
 
 pub between-is : (low high : ℕ) (z : ℤ) → between (pos low) (pos high) z ≡ true → Natural z low high
 unfolding between nat

@@ -1,5 +1,6 @@
 -- Document 01's own answers, in which elements count from 0 and element i sits on cell a·i + b, and the law of A1 about them:
--- of a cyclic template with both bounds 0, b of 0 or more and a up to A6's limit, every answer is document 01's. Definitions, and that statement.
+-- of a cyclic template with both bounds 0, b of 0 or more and a up to A6's limit, every answer is document 01's. Definitions, and
+-- that statement.
 use Prim.Native.Nat.{ℕ, _+_, _-_, _*_, _/_}
 use mathlib.Core.Path.{_≡_}
 use mathlib.Core.Bool.{Bool, true, cond, _&&_, _||_}

@@ -1,19 +1,18 @@
 -- `first_refusal` meets its contract: each return rewrites by the answers on the way to it.
-use Prim.Native.Nat.{ℕ, _≤_}
-use mathlib.Core.Path.{_≡_, sym, ap, _∙_}
+use Prim.Native.Nat.{_≤_}
+use mathlib.Core.Path.{_≡_, sym, _∙_}
 use mathlib.Core.Bool.{true}
 use mathlib.Core.List.{[]}
-use native.Mathlib.Omega.{arith}
 use borrow.Author.Needs.{needs}
 use borrow.Author.Tests.{not-true, not-false}
-use lib.IntN.{ℤ, pos, natAbs}
+use lib.IntN.{pos, natAbs}
 use mir.Syntax.{w64}
 use mir.ValLaws.{toZ-ofZ}
 use Rattle.numbers.proofs.Tests.{both-true}
 use Rattle.model.specs.Mappings.{cyclic, dealingWith, Mapping}
 use Rattle.model.specs.Ownership.{cellUnder, lastIndex, lastCell}
 use Rattle.model.specs.Questions.{AllYes, between, most, least, mostStride, firstNo, boundsFit, cellsFit}
-use Rattle.model.proofs.QuestionLaws.{between-is, size-is}
+use Rattle.model.proofs.QuestionLaws.{size-upto, between-is, size-is}
 use Rattle.model.proofs.AcceptedLaws.{bounds-of}
 use Rattle.mapping.specs.Answers.{mappingOf, ofDealing}
 use Rattle.mapping.specs.Bounds.{Reached}
@@ -62,22 +61,18 @@ sized : (c : tie.Else2) → between (pos 0) most (start c .args .n) ≡ true
 sized c =
     let s = start c in said-yes (between (pos 0) most) (s .args .n) (s .fits .n) (c .before .within .ensures) (c .if2 .left)
 
--- a number from 0 on is as small as its question says
-natural-small : (low high : ℕ) (z : ℤ) → between (pos low) (pos high) z ≡ true → natAbs z ≤ high
-natural-small low high z e = let w = between-is low high z e in omega (arith, w .upto, ap natAbs (w .whole))
-
 module _ (c : tie.Else2) where
   yes-all : AllYes (first (start c .args .listed) (asked (start c)))
   yes-all = dealing-yes (start c .args .listed) (asked (start c)) (dealt (c .before .before))
 
   size-small : natAbs (start c .args .n) ≤ 2147483647
-  size-small = natural-small 0 2147483647 (start c .args .n) (sized c)
+  size-small = size-upto (between-is 0 2147483647 (start c .args .n) (sized c))
 
 bounds-fit-requires : tie.Need-bounds-fit-requires
 bounds-fit-requires c κs =
     let s = start c in
     rw (toZ-ofZ w64 (s .args .t) (s .fits .t), toZ-ofZ w64 (s .args .n) (s .fits .n))
-    (natural-small 1 2147483647 (s .args .t) (yes-all c .0), size-small c)
+    (size-upto (between-is 1 2147483647 (s .args .t) (yes-all c .0)), size-small c)
 
 -- the answer to question 15
 bounds : (c : tie.After-bounds-fit) → c .bounds-fit .result ≡ boundsFit (asked (start (c .before)))
@@ -111,7 +106,7 @@ reached c =
     let four = both-true (between (pos 1) (pos mostStride) (s .args .a)) (between least most (s .args .b)) (yes-all e2 .1 .1 .1 .1 .0) in
     record {
       first = record {
-        stride = natural-small 1 mostStride (s .args .a) (four .0);
+        stride = size-upto (between-is 1 mostStride (s .args .a) (four .0));
         offset = size-is (s .args .b) (four .1);
         origin = w .origin;
         index = w .lower;

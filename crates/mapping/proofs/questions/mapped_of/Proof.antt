@@ -5,7 +5,7 @@ use mathlib.Core.List.{List, []}
 use native.Mathlib.Omega.{arith}
 use borrow.Author.Needs.{needs}
 use borrow.Author.Tests.{eq-eqb, ne-eqb}
-use lib.IntN.{ℤ, natAbs, _+ℤ_, _-ℤ_, _*ℤ_}
+use lib.IntN.{ℤ, _+ℤ_, _-ℤ_, _*ℤ_}
 use mir.Syntax.{w64}
 use mir.ValLaws.{toZ-ofZ}
 use Rattle.numbers.proofs.Signed.{read-of}
@@ -15,6 +15,7 @@ use Rattle.model.specs.Mappings.{dealingWith, Mapping}
 use Rattle.model.specs.declared.Layout.{Layout}
 use Rattle.model.specs.Ownership.{nat, cellUnder, blockIn, layoutOf}
 use Rattle.model.specs.Questions.{firstNo, ofMapping}
+use Rattle.model.proofs.QuestionLaws.{size-upto}
 use Rattle.model.proofs.AcceptedLaws.{stride-in, bounds-in, offset-small, mapped}
 use Rattle.mapping.specs.declared.questions.Mapped.the-variants.{By, Refused}
 use Rattle.mapping.specs.Answers.{mappingOf, ofListed, mappedOf, Sound}
@@ -85,7 +86,7 @@ aligned : (m : Mapping) → firstNo (ofMapping m) ≡ 0 → Aligned (m .stride) 
 aligned m ok =
     let b = bounds-in m ok in
     record {
-      stride = omega (arith, ap natAbs (stride-in m ok .whole), stride-in m ok .upto);
+      stride = size-upto (stride-in m ok);
       offset = offset-small m ok;
       origin = b .origin;
       index = b .lower;

@@ -1,17 +1,17 @@
 -- `runs_fit` meets its contract.
 use Prim.Native.Nat.{_%_}
-use mathlib.Core.Path.{_≡_, sym, ap, _∙_}
+use mathlib.Core.Path.{_≡_, sym, _∙_}
 use mathlib.Core.Bool.{true}
 use native.Mathlib.Omega.{arith}
 use borrow.Author.Needs.{needs}
-use lib.IntN.{pos, natAbs}
+use lib.IntN.{pos}
 use lib.ListN.{length}
 use mir.Syntax.{w64}
 use Rattle.numbers.proofs.Signed.{read-of}
 use Rattle.model.specs.Mappings.{sizesOf}
 use Rattle.model.specs.Ownership.{nat}
 use Rattle.model.specs.Questions.{between, sizesFit}
-use Rattle.model.proofs.QuestionLaws.{natural-le, between-is}
+use Rattle.model.proofs.QuestionLaws.{between-is}
 use Rattle.mapping.proofs.questions.runs_fit.Statement.{statement}
 use Rattle.mapping.proofs.questions.runs_fit.Tie as tie
 
@@ -37,7 +37,7 @@ sizes-fit-requires c κs =
     let n = c .before in
     let s = n .before .before .before .before in
     let w = between-is 1 1024 (s .args .p) (holds (n .before)) in
-    omega (arith, read-of w64 nat (s .args .p) (s .fits .p) (n .natural .ensures), natural-le (s .args .p), w .upto, ap natAbs (w .whole))
+    omega (arith, read-of w64 nat (s .args .p) (s .fits .p) (n .natural .ensures), w .upto)
 
 returns : tie.Need-returns
 unfolding sizesFit nat

@@ -24,6 +24,10 @@ static held goals[GOALS] = {
     [CHECKPOINT_MEMCPY] = {"k / a of 64 or more: checkpoint / memcpy", "", 2.0, 0, 0, 0, 0, {0}},
     [RESTORE_MEMCPY] = {"k / a of 64 or more: restore / memcpy", "", 2.0, 0, 0, 0, 0, {0}},
     [FILL_BY_SIZES] = {"long fills by sizes: fill / C loop", "", 1.2, 0, 0, 0, 0, {0}},
+    [GRID_LONG_ROWS] = {"grids, rows of 64 entries or more: fill / rank 1", "", 1.2, 0, 0, 0, 0, {0}},
+    [GRID_SHORT_ROWS] = {"grids, shorter rows: fill / nested loops", "", 2.0, 0, 0, 0, 0, {0}},
+    [GRID_SHORT_REST] = {"grids, shorter rows: fill less a fill of 1 / nested loops", "", 2.0, 0, 0, 0, 0, {0}},
+    [GRID_ONE_ENTRY] = {"grids: fill of 1", " ns", 2000.0, 0, 0, 0, 0, {0}},
 };
 
 void hold_against(goal g, double figure, const input *in)

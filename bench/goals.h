@@ -15,6 +15,10 @@ typedef enum {
     CHECKPOINT_MEMCPY,
     RESTORE_MEMCPY,
     FILL_BY_SIZES,
+    GRID_LONG_ROWS,
+    GRID_SHORT_ROWS,
+    GRID_SHORT_REST,
+    GRID_ONE_ENTRY,
     GOALS
 } goal;
 

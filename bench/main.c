@@ -1,6 +1,7 @@
 /*
- * Prints all tables in Markdown; with the argument `each` every long fill and every loop beside a checkpoint too,
- * on standard error. With `checkpoints` or `gen_block` it prints the tables and the goals of these only.
+ * Prints all tables in Markdown; with the argument `each` every long fill, every loop beside a checkpoint and every
+ * fill of a grid too, on standard error. With `checkpoints`, `gen_block` or `grids` it prints the tables and the goals
+ * of these only.
  */
 #include <string.h>
 
@@ -19,17 +20,22 @@ int main(int argc, char **argv)
 {
     int each_input = asked_for("each", argc, argv);
     int checkpoints = asked_for("checkpoints", argc, argv), gen_block = asked_for("gen_block", argc, argv);
-    if (!checkpoints && !gen_block) {
+    int grids = asked_for("grids", argc, argv), all = !checkpoints && !gen_block && !grids;
+    if (all) {
         print_long_fills(each_input);
         print_short_fills();
         print_elements();
         print_sections();
         print_growth();
     }
-    if (checkpoints || !gen_block)
+    if (all || checkpoints)
         print_checkpoints(each_input);
-    if (gen_block || !checkpoints)
+    if (all || gen_block)
         print_gen_block();
+    if (all || grids) {
+        print_grids(each_input);
+        print_grid_calls();
+    }
     print_goals();
     return 0;
 }

@@ -19,4 +19,8 @@ void print_checkpoints(int each_input);
 /* gen_block.c */
 void print_gen_block(void);
 
+/* grids.c: fills; grid_calls.c */
+void print_grids(int each_input);
+void print_grid_calls(void);
+
 #endif

@@ -1,34 +1,32 @@
 ! hpfaddr: owners, local addresses, sections, assignments and checkpoints of
-! one-dimensional arrays, block-cyclic or dealt by a list of sizes.
+! one-dimensional arrays, block-cyclic or dealt by a list of sizes; and of arrays of rank 2 and
+! 3 owners, local addresses and sections, as hpfaddr_grid says.
 !
-! A mapping is eight numbers: a template of `cells` cells (1 to 2147483647) is
-! dealt to `processors` processors (1 to 1024) in blocks of `block` cells (1 to
-! 65536); an array of `size` elements (0 to 2147483647) is aligned to it. Indices
-! are the declared ones, array_lower to array_lower + size - 1, wherever they go in
-! or come out. Declared index j sits on declared cell stride*j + offset, which is
-! cell stride*j + offset - template_lower (stride 1 to 4096; offset and both
-! bounds -2147483647 to 2147483647, and so the last index and the last declared
-! cell). The first element's cell is 0 or more, the last one's below `cells`.
+! A mapping is eight numbers: a template of `cells` cells (1 to 2147483647) is dealt to
+! `processors` processors (1 to 1024) in blocks of `block` cells (1 to 65536); an array of `size`
+! elements (0 to 2147483647) is aligned to it. Indices are the declared ones, array_lower to
+! array_lower + size - 1, wherever they go in or come out. Declared index j sits on declared cell
+! stride*j + offset, which is cell stride*j + offset - template_lower (stride 1 to 4096; offset
+! and both bounds -2147483647 to 2147483647, and so the last index and the last declared cell).
+! The first element's cell is 0 or more, the last one's below `cells`.
 !
-! Cells, processors, addresses and positions count from 0. The owner of cell c is
-! processor mod(c / block, processors). The local address of an element is the
-! number of elements with a lower index and the same owner.
+! Cells, processors, addresses and positions count from 0. The owner of cell c is processor
+! mod(c / block, processors). The local address of an element is the number of elements with a
+! lower index and the same owner.
 !
 ! A template may be dealt by a list of sizes instead, one for each processor, 0 or more,
 ! and `cells` or more in all (GEN_BLOCK of HPF 2.0's approved extensions): the first cells
 ! are processor 0's, as many as sizes(1) says, the next ones processor 1's, and so on.
 ! Each call takes an array of 32-bit integers for it, where it takes the block otherwise.
 !
-! A section lower:upper:step of the array (each -2147483647 to 2147483647, step
-! not 0) has count = max(0, (upper - lower + step) / step) elements, as in
-! Fortran; position t holds element lower + t*step. Its first and last element,
-! if it has any, are elements of the array.
+! A section lower:upper:step of the array (each -2147483647 to 2147483647, step not 0) has
+! count = max(0, (upper - lower + step) / step) elements, as in Fortran; position t holds element
+! lower + t*step. Its first and last element, if it has any, are elements of the array.
 !
-! Each call takes these numbers one by one, or a mapping and a section as one thing
-! each, as here. A processor's list is made of the section's elements that it owns,
-! in rising position. A place is the position of one of them, or the count at the
-! end. To fill the whole list, go on from hpf_first_place until the count that
-! hpf_section_steps gives:
+! Each call takes these numbers one by one, or a mapping and a section as one thing each, as here.
+! A processor's list is made of the section's elements that it owns, in rising position. A place
+! is the position of one of them, or the count at the end. To fill the whole list, go on from
+! hpf_first_place until the count that hpf_section_steps gives:
 !
 !   do while (place /= count)
 !     filled = hpf_fill_words(mapping, section, processor, place, quota, list)
@@ -39,38 +37,42 @@
 ! Look at each refusal first: the place 0 of a refused call is no place. The list
 ! needs one entry or more, or the loop does not end.
 !
-! In an assignment left(section) = right(section), of two sections with the same
-! count, the element at each position goes from a sender, its owner on the right,
-! to a receiver, its owner on the left. hpf_transfers lists the positions of one
-! sender and one receiver, rising, with the addresses on both.
+! In an assignment left(section) = right(section), of two sections with the same count, the
+! element at each position goes from a sender, its owner on the right, to a receiver, its owner on
+! the left. hpf_transfers lists the positions of one sender and one receiver, rising, with the
+! addresses on both.
 !
-! The storage of an array is its processors' words laid end to end, processor 0's first,
-! each one's in the order of local addresses. hpf_checkpoint writes them in index order,
-! and hpf_restore from index order into the storage of any mapping of as many elements:
-! each element's word is then where that mapping has it.
+! The storage of an array is its processors' words laid end to end, processor 0's first, each
+! one's in the order of local addresses. hpf_checkpoint writes them in index order, and hpf_restore
+! from index order into the storage of any mapping of as many elements: each element's word is then
+! where that mapping has it.
 !
-! Every call returns, whatever numbers it is given; it keeps no state, and writes only
-! the lists that it is lent, so any number of threads may call at once, each with its
-! own lists. include/hpfaddr.h says what is guaranteed. This file is compiled after
-! hpfaddr_numbers, hpfaddr_gen_block_numbers, hpfaddr_gen_block and hpfaddr_between.
+! Every call returns, whatever numbers it is given; it keeps no state, and writes only the lists
+! that it is lent, so any number of threads may call at once, each with its own lists.
+! include/hpfaddr.h says what is guaranteed. This file is compiled after hpfaddr_numbers,
+! hpfaddr_gen_block_numbers, hpfaddr_gen_block, hpfaddr_between, hpfaddr_grid_numbers and hpfaddr_grid.
 module hpfaddr
   use, intrinsic :: iso_c_binding, only: c_int32_t, c_int64_t, c_size_t, c_double, c_ptr
   use hpfaddr_numbers
   use hpfaddr_gen_block_numbers
   use hpfaddr_gen_block
   use hpfaddr_between
+  use hpfaddr_grid
   implicit none
   private
 
   public :: hpf_mapping, hpf_gen_block_mapping, hpf_triplet
   public :: hpf_owned, hpf_found, hpf_counted, hpf_steps, hpf_placed, hpf_filled, hpf_transferred, hpf_copied
-  public :: hpf_ownership, hpf_going_back, hpf_local_count
+  public :: hpf_ownership, hpf_going_back, hpf_local_count, hpf_transfers, hpf_checkpoint, hpf_restore
   public :: hpf_section_steps, hpf_first_place, hpf_fill, hpf_fill_words
-  public :: hpf_transfers, hpf_checkpoint, hpf_restore
+  public :: hpf_dimension, hpf_grid, hpf_grid_section, hpf_grid_found, hpf_grid_steps, hpf_cyclic, hpf_gen_block
+  public :: hpf_grid_ownership, hpf_grid_going_back, hpf_grid_section_steps, hpf_grid_first_place
+  public :: hpf_grid_fill, hpf_grid_fill_words
   public :: hpf_accepted, hpf_refused_cells, hpf_refused_processors, hpf_refused_block, hpf_refused_gen_block
   public :: hpf_refused_alignment, hpf_refused_size, hpf_refused_bounds, hpf_refused_triplet
   public :: hpf_refused_section, hpf_refused_processor_number, hpf_refused_element
-  public :: hpf_refused_place, hpf_refused_quota, hpf_refused_counts, hpf_refused_room, hpf_least_quota, hpf_largest_quota
+  public :: hpf_refused_place, hpf_refused_quota, hpf_refused_counts, hpf_refused_room, hpf_refused_grid
+  public :: hpf_least_quota, hpf_largest_quota
 
   ! The owner and the local address of the element with this declared index.
   interface hpf_ownership

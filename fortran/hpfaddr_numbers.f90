@@ -53,7 +53,7 @@ module hpfaddr_numbers
   end type hpf_mapping
 
   ! A section. Its step is the stride of a Fortran subscript triplet.
-  type :: hpf_triplet
+  type, bind(c) :: hpf_triplet
     integer(c_int64_t) :: lower, upper, stride
   end type hpf_triplet
 

@@ -1,6 +1,7 @@
 /*
  * hpfaddr.h: owners, local addresses, sections, assignments and checkpoints of
- * one-dimensional arrays, block-cyclic or dealt by a list of sizes.
+ * one-dimensional arrays, block-cyclic or dealt by a list of sizes; and of arrays of rank
+ * 2 and 3 owners, local addresses and sections, as hpfaddr_grid.h says.
  *
  * A template is a row of cells, dealt to processors in blocks, as CYCLIC(k) of
  * HPF 2.0 says. An array is aligned to the template. A mapping is eight numbers:
@@ -122,7 +123,8 @@ enum {
     HPF_REFUSED_PLACE = 10,           /* is the place the count, or a position whose element the processor owns? */
     HPF_REFUSED_QUOTA = 11,           /* is the quota in its range? */
     HPF_REFUSED_COUNTS = 12,          /* have both sections the same count? */
-    HPF_REFUSED_ROOM = 13             /* has each list room: for the pair's entries, for the array's words? */
+    HPF_REFUSED_ROOM = 13,            /* has each list room: for the pair's entries, for the array's words? */
+    HPF_REFUSED_GRID = 17             /* is the rank 1 to 3? after 7: are there few enough processors and elements? */
 };
 
 /* The quotas of a fill. A fill goes on only while it has the least of them left. */
@@ -285,6 +287,7 @@ hpf_copied hpf_restore(int64_t cells, int64_t processors, int64_t block, int64_t
 
 #include "hpfaddr_gen_block.h"
 #include "hpfaddr_typed.h"
+#include "hpfaddr_grid.h"
 
 #ifdef __cplusplus
 }

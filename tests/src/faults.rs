@@ -9,12 +9,13 @@ use crate::section_library::{Fill, Triplet};
 
 const LARGEST: i64 = 2_147_483_647;
 pub const MOST_FAULTS: u64 = 3;
+const OF_A_SECTION: usize = 8;
 
 /// Exchanges a number of a fill for one that is at fault in the lawful fill.
 type Fault = fn(&mut Generator, &Fill, &mut Fill);
 
 /// A fault for each question of a fill, and for each half of 5, but for 3 and 10, which
-/// go by the dealing.
+/// go by the dealing. The first ones are those of the mapping and the section.
 const OF_ANY_DEALING: [Fault; 10] = [
     |generator, _, fill| fill.m.cells = outside(generator, 1, LARGEST),
     |generator, _, fill| fill.m.processors = outside(generator, 1, 1_024),
@@ -46,13 +47,22 @@ pub fn spoil(generator: &mut Generator, lawful: &Fill) -> Fill {
 
 /// Exchanges a number that every dealing has.
 pub fn spoil_number(generator: &mut Generator, lawful: &Fill, fill: &mut Fill) {
-    let fault = OF_ANY_DEALING[generator.below(OF_ANY_DEALING.len() as u64) as usize];
+    spoil_one_of(&OF_ANY_DEALING, generator, lawful, fill);
+}
+
+/// Exchanges a number of the mapping or of the section.
+pub fn spoil_section(generator: &mut Generator, lawful: &Fill, fill: &mut Fill) {
+    spoil_one_of(&OF_ANY_DEALING[..OF_A_SECTION], generator, lawful, fill);
+}
+
+fn spoil_one_of(faults: &[Fault], generator: &mut Generator, lawful: &Fill, fill: &mut Fill) {
+    let fault = faults[generator.below(faults.len() as u64) as usize];
     fault(generator, lawful, fill);
 }
 
 /// A number below `low` or above `high`: next to them, far away, or one that
 /// seems lawful once its high bits are lost.
-fn outside(generator: &mut Generator, low: i64, high: i64) -> i64 {
+pub fn outside(generator: &mut Generator, low: i64, high: i64) -> i64 {
     match generator.below(6) {
         0 => low - 1,
         1 => high + 1,

@@ -19,7 +19,7 @@ const GUARD: u64 = 8;
 /// A fill of either dealing, which is made again and again with another place and quota.
 pub trait Chained: CallFill + Clone {
     /// What fills at fault may meet.
-    const REFUSALS: [usize; 11];
+    const REFUSALS: &'static [usize];
 
     fn with(&self, place: i64, quota: i64) -> Self;
 
@@ -31,7 +31,7 @@ pub trait Chained: CallFill + Clone {
 }
 
 impl Chained for Fill {
-    const REFUSALS: [usize; 11] = [1, 2, 3, 4, 5, 6, 7, 8, 10, 11, 15];
+    const REFUSALS: &'static [usize] = &[1, 2, 3, 4, 5, 6, 7, 8, 10, 11, 15];
 
     fn with(&self, place: i64, quota: i64) -> Fill {
         Fill {
@@ -57,7 +57,7 @@ pub struct Chains<'a> {
     /// Entries of the longest list that is lent.
     longest_list: u64,
     accepted: u64,
-    refused: [u64; 17],
+    refused: [u64; 18],
 }
 
 /// What the caller of a chain keeps, and what was got so far.
@@ -77,7 +77,7 @@ impl Chains<'_> {
             generator: Generator::new(seed),
             longest_list,
             accepted: 0,
-            refused: [0; 17],
+            refused: [0; 18],
         }
     }
 
@@ -85,8 +85,8 @@ impl Chains<'_> {
     pub fn words<F: Chained>(&self) -> String {
         let accepted = self.accepted;
         let refused: u64 = self.refused.iter().sum();
-        let kinds = F::REFUSALS.map(|kind| self.refused[kind]);
-        let least = kinds.into_iter().min().unwrap_or(0);
+        let kinds = F::REFUSALS.iter().map(|&kind| self.refused[kind]);
+        let least = kinds.min().unwrap_or(0);
         format!("{accepted} fills and {refused} refused ones ({least} or more of each kind)")
     }
 

@@ -1,7 +1,7 @@
 //! Compares the library, and the program `list`, with a slow enumeration and
 //! other ways of counting. Says what was compared, and stops at the first
-//! difference. The argument `calls` or `sheets` leaves out the other, and `gen_block`
-//! all but the calls on lists of sizes.
+//! difference. The argument `calls` or `sheets` leaves out the other, `gen_block` all but
+//! the calls on lists of sizes, and `grids` all but those on grids.
 
 mod answers;
 mod bound_edges;
@@ -21,6 +21,7 @@ mod faults;
 mod fill_chains;
 mod gen_block;
 mod generator;
+mod grids;
 mod guarded_list;
 mod lent;
 mod library;
@@ -119,16 +120,20 @@ fn main() -> ExitCode {
 fn groups() -> Result<Vec<Group>, Difference> {
     let arguments: Vec<String> = env::args().skip(1).collect();
     match arguments.join(" ").as_str() {
-        "" => Ok(CALLS
-            .into_iter()
-            .chain(gen_block::GROUPS)
-            .chain(sheets::GROUPS)
-            .collect()),
-        "calls" => Ok(CALLS.into_iter().chain(gen_block::GROUPS).collect()),
+        "" => Ok(calls().chain(sheets::GROUPS).collect()),
+        "calls" => Ok(calls().collect()),
         "gen_block" => Ok(gen_block::GROUPS.to_vec()),
+        "grids" => Ok(grids::GROUPS.to_vec()),
         "sheets" => Ok(sheets::GROUPS.to_vec()),
         other => Err(Difference(format!("there is no part {other:?}"))),
     }
+}
+
+fn calls() -> impl Iterator<Item = Group> {
+    CALLS
+        .into_iter()
+        .chain(gen_block::GROUPS)
+        .chain(grids::GROUPS)
 }
 
 fn compare_groups(groups: Vec<Group>) -> Result<u64, Difference> {

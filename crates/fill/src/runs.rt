@@ -68,7 +68,7 @@ fn fill_along(s: Start, r: Span, list: &mut [u8]) -> Report
 }
 
 // The fill of a run. At the count there is no element.
-fn fill_run(s: Start, r: Span, list: &mut [u8]) -> Report
+pub(crate) fn fill_run(s: Start, r: Span, list: &mut [u8]) -> Report
     requires { ⌜ Accepted s × (s .extent ≡ Extent.Run r) ⌝ }
     ensures { λ o. ⌜ FillsBytesFrom s (now (list .entry)) (now (list .exit)) o ⌝ }
 {

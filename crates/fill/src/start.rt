@@ -18,7 +18,7 @@ ghost use mathlib.Core.Path.{_≡_};
 ghost use Rattle.model.specs.Ownership.{columnOf};
 ghost use Rattle.section.specs.Strides.{Bounded};
 ghost use Rattle.fill.specs.SectionMoves.{onWay};
-ghost use Rattle.fill.specs.Starting.{taskIn, InBlocks, StateOf, FillsBlocks};
+ghost use Rattle.fill.specs.Starting.{taskIn, Planned, InBlocks, StateOf, FillsBlocks};
 
 // The fill along the section's elements, by moves that are learnt.
 fn task_of(s: Start, m: Moves) -> Task
@@ -83,6 +83,20 @@ pub fn fill_blocks(s: Start, list: &mut [u8]) -> Report
     let w = s.section;
     let state = state_at(s);
     match plan_of(w, s.processor) {
+        Plan::Constant(m) => fill_bytes(m, w.count, s.quota, state, list),
+        Plan::Learnt(m) => fill_bytes_learning(task_of(s, m), state, list),
+    }
+}
+
+// The same by a plan that was found before. It stands beside the other, and not under it, since a
+// plan that is handed on in memory would cost every fill of a section some 30 ns.
+pub(crate) fn fill_planned(s: Start, plan: Plan, list: &mut [u8]) -> Report
+    requires { ⌜ InBlocks s × Planned (s .section) (s .processor) plan ⌝ }
+    ensures { λ r. ⌜ FillsBlocks s (now (list .entry)) (now (list .exit)) r ⌝ }
+{
+    let w = s.section;
+    let state = state_at(s);
+    match plan {
         Plan::Constant(m) => fill_bytes(m, w.count, s.quota, state, list),
         Plan::Learnt(m) => fill_bytes_learning(task_of(s, m), state, list),
     }

@@ -38,7 +38,7 @@ use Rattle.hpfaddr.specs.Sizes.{In32, In64, StepFits, StepsFit, PlacedFi
 pub with-size : {A : Type 0} (P : A → Type 0) {a b : A} → a ≡ b → P b → (a ≡ b) × P a
 with-size P e h = (e, subst P (sym e) h)
 
-count-small : (x : Section) → firstNo (ofSection x) ≡ 0 → count x ≤ 2147483647
+pub count-small : (x : Section) → firstNo (ofSection x) ≡ 0 → count x ≤ 2147483647
 unfolding stridedOf
 count-small x ok = bounded x ok .count-high
 
@@ -50,7 +50,7 @@ forward-fits r l = omega (arith, l .cells, l .courses, l .column)
 backward-fits : (r : Step) → Low r → StepFits (backward r)
 backward-fits r l = omega (arith, l .cells, l .courses, l .column, size-neg (pos (r .column)))
 
-report-fits : (n : ℕ) → In64 n → (s : Steps) → AllLow s → StepsFit (stepsReport n s)
+pub report-fits : (n : ℕ) → In64 n → (s : Steps) → AllLow s → StepsFit (stepsReport n s)
 report-fits n h NoStep l = omega arith
 report-fits n h (OneStep r) l = (omega arith, h, omega arith, forward-fits r l, omega arith)
 report-fits n h (TwoSteps r w) l = (omega arith, h, omega arith, forward-fits r (l .0), backward-fits w (l .1))

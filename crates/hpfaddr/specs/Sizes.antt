@@ -3,6 +3,8 @@
 use Prim.Native.Nat.{ℕ, _^_, _<_}
 use lib.IntN.{ℤ, natAbs}
 use Rattle.model.specs.Calls.{OwnershipAnswer, GoingBackAnswer, LocalCountAnswer, StepReport, SectionStepsAnswer, PlaceAnswer}
+use Rattle.model.specs.Grids.{Three}
+use Rattle.model.specs.GridCalls.{GridBackAnswer, GridStepsAnswer}
 use Rattle.model.specs.Transfers.{TransferAnswer}
 use Rattle.model.specs.Checkpoints.{CopyAnswer}
 use Rattle.fill.specs.Answers.{FillReport}
@@ -44,3 +46,14 @@ TransferredFits a = In32 (a .refusal) × In32 (a .entries) × In32 (a .needed)
 
 abbrev pub CopiedFits : CopyAnswer → Type 0
 CopiedFits a = In32 (a .refusal) × In32 (a .needed)
+
+abbrev pub IndicesFit : Three ℤ → Type 0
+IndicesFit j = Signed32 (j .first) × Signed32 (j .second) × Signed32 (j .third)
+
+abbrev pub GridFoundFits : GridBackAnswer → Type 0
+GridFoundFits a = In32 (a .refusal) × IndicesFit (a .indices)
+
+abbrev pub GridStepsFit : GridStepsAnswer → Type 0
+GridStepsFit a =
+    In64 (a .refusal) × In64 (a .count) × StepsFit (a .dimensions .first) × StepsFit (a .dimensions .second)
+    × StepsFit (a .dimensions .third)

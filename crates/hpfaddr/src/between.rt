@@ -1,23 +1,12 @@
 // The C function of array assignments between templates of either dealing.
-ghost use mathlib.Core.Path.{_≡_};
 ghost use Rattle.transfer.specs.Answers.{callOf, listsOf};
-ghost use Rattle.hpfaddr.specs.Fields.{byNumber, dealingFrom, sectionFrom, transferredFields, TransferredFields};
+ghost use Rattle.hpfaddr.specs.Fields.{byNumber, sectionFrom, transferredFields, TransferredFields};
 ghost use Rattle.hpfaddr.specs.Sizes.{TransferredFits};
 use crate::assignment::HpfTransferred;
 use crate::assignment::transferred_of;
+use crate::parameters::dealing_of;
 use crate::parameters::mapping_of;
 use crate::parameters::section_of;
-use model::Dealing;
-
-// The dealing that a number says: 0 cyclic, any other GEN_BLOCK.
-fn dealing_of(number: i64, block: i64) -> Dealing
-    ensures { λ r. ⌜ r ≡ dealingFrom number block ⌝ }
-{
-    if number == 0 {
-        return Dealing::Cyclic(block);
-    }
-    Dealing::GenBlock
-}
 
 // As hpf_transfers, each side with a dealing of its own: a number that says which, its block and its
 // list of sizes, of which the one that concerns it is looked at.

@@ -2,11 +2,12 @@
 // out by value, its first field the refusal. Here stand those of a mapping, in sections.rt those of
 // sections and fills, in assignment.rt and between.rt those of transfers, in checkpoints.rt those of
 // checkpoints, each for a cyclic template; in gen_block.rt and gen_block_sections.rt the same for
-// GEN_BLOCK. include/ and fortran/ declare them.
+// GEN_BLOCK; in grids.rt and grid_sections.rt those of grids of processors. include/ and fortran/
+// declare them.
 ghost use mathlib.Core.Path.{_≡_};
 ghost use Rattle.model.specs.Mappings.{cyclic, mappingWith};
 ghost use Rattle.model.specs.Calls.{ownership, goingBack, localCount};
-ghost use Rattle.mapping.specs.Answers.{mappingOf};
+ghost use Rattle.mapping.specs.Answers.{mappingOf, ownedAs};
 ghost use Rattle.hpfaddr.specs.Fields.{ownedFields, foundFields, countedFields};
 ghost use Rattle.hpfaddr.specs.Sizes.{OwnedFits, FoundFits, CountedFits};
 use mapping::Counted;
@@ -21,6 +22,8 @@ pub mod between;
 pub mod checkpoints;
 pub mod gen_block;
 pub mod gen_block_sections;
+pub mod grid_sections;
+pub mod grids;
 mod parameters;
 pub mod sections;
 
@@ -31,11 +34,11 @@ pub struct HpfOwned {
     pub address: u32,
 }
 
-pub(crate) fn owned_of(m: Mapping, sizes: &[u8], index: i64) -> HpfOwned
-    ensures { λ r. ⌜ ownedFields r ≡ ownership (mappingWith m (now (sizes .entry))) index ⌝ }
-    ensures { λ r. ⌜ OwnedFits (ownedFields r) ⌝ }
+pub(crate) fn fields_of(o: Owned) -> HpfOwned
+    requires { ⌜ OwnedFits (ownedAs o) ⌝ }
+    ensures { λ r. ⌜ ownedFields r ≡ ownedAs o ⌝ }
 {
-    match mapping::ownership(m, sizes, index) {
+    match o {
         Owned::At { processor, address } => HpfOwned {
             refusal: 0,
             processor: processor as u32,
@@ -47,6 +50,13 @@ pub(crate) fn owned_of(m: Mapping, sizes: &[u8], index: i64) -> HpfOwned
             address: 0,
         },
     }
+}
+
+pub(crate) fn owned_of(m: Mapping, sizes: &[u8], index: i64) -> HpfOwned
+    ensures { λ r. ⌜ ownedFields r ≡ ownership (mappingWith m (now (sizes .entry))) index ⌝ }
+    ensures { λ r. ⌜ OwnedFits (ownedFields r) ⌝ }
+{
+    fields_of(mapping::ownership(m, sizes, index))
 }
 
 // Processor and local address of the element of a declared index.

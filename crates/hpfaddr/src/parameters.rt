@@ -1,11 +1,21 @@
 // The mapping and the section that a C function's numbers make.
 ghost use mathlib.Core.Path.{_≡_};
 ghost use Rattle.section.specs.Strides.{tripletOf};
-ghost use Rattle.hpfaddr.specs.Fields.{numbersOf};
+ghost use Rattle.hpfaddr.specs.Fields.{dealingFrom, numbersOf};
 use model::Dealing;
 use model::Mapping;
 use model::Section;
 use model::Triplet;
+
+// The dealing that a number says: 0 cyclic, any other GEN_BLOCK.
+pub fn dealing_of(number: i64, block: i64) -> Dealing
+    ensures { λ r. ⌜ r ≡ dealingFrom number block ⌝ }
+{
+    if number == 0 {
+        return Dealing::Cyclic(block);
+    }
+    Dealing::GenBlock
+}
 
 pub fn mapping_of(
     cells: i64,

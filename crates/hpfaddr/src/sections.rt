@@ -2,7 +2,7 @@
 ghost use mathlib.Core.Path.{_≡_};
 ghost use Rattle.model.specs.Mappings.{cyclic, sectionWith};
 ghost use Rattle.model.specs.Calls.{noReport, sectionSteps, firstPlaceAt};
-ghost use Rattle.section.specs.Answers.{stepAs};
+ghost use Rattle.section.specs.Answers.{stepAs, stepsAs, placedAs};
 ghost use Rattle.fill.specs.Answers.{reportAs};
 ghost use Rattle.hpfaddr.specs.Fields.{stepsFields, placedFields, sectionFrom, fillOf, filledFields, FilledFields};
 ghost use Rattle.hpfaddr.specs.Sizes.{StepsFit, PlacedFits, FilledFits};
@@ -52,7 +52,7 @@ fn step_fields(count: u64, steps: u64, step: Reported, back: Reported) -> HpfSte
     }
 }
 
-fn no_step(refusal: u32, count: u64) -> HpfSteps
+pub(crate) fn no_step(refusal: u32, count: u64) -> HpfSteps
     ensures { λ r. ⌜ stepsFields r ≡ record { refusal = refusal; count = count; steps = 0; first = noReport; second = noReport } ⌝ }
 {
     HpfSteps {
@@ -68,16 +68,22 @@ fn no_step(refusal: u32, count: u64) -> HpfSteps
     }
 }
 
-pub(crate) fn steps_of(x: Section, sizes: &[u8]) -> HpfSteps
-    ensures { λ r. ⌜ stepsFields r ≡ sectionSteps (sectionWith x (now (sizes .entry))) ⌝ }
-    ensures { λ r. ⌜ StepsFit (stepsFields r) ⌝ }
+pub(crate) fn fields_of_steps(s: SectionSteps) -> HpfSteps
+    ensures { λ r. ⌜ stepsFields r ≡ stepsAs s ⌝ }
 {
-    match section::section_steps(x, sizes) {
+    match s {
         SectionSteps::NoStep(n) => no_step(0, n),
         SectionSteps::OneStep(n, r) => step_fields(n, 1, r, NOT_THERE),
         SectionSteps::TwoSteps(n, r, w) => step_fields(n, 2, r, w),
         SectionSteps::Refused(e) => no_step(e, 0),
     }
+}
+
+pub(crate) fn steps_of(x: Section, sizes: &[u8]) -> HpfSteps
+    ensures { λ r. ⌜ stepsFields r ≡ sectionSteps (sectionWith x (now (sizes .entry))) ⌝ }
+    ensures { λ r. ⌜ StepsFit (stepsFields r) ⌝ }
+{
+    fields_of_steps(section::section_steps(x, sizes))
 }
 
 // The count of a section and its steps: the processor step, or the one step, and the
@@ -121,11 +127,11 @@ pub struct HpfPlaced {
     pub place: u32,
 }
 
-pub(crate) fn placed_of(x: Section, sizes: &[u8], processor: i64) -> HpfPlaced
-    ensures { λ r. ⌜ placedFields r ≡ firstPlaceAt (sectionWith x (now (sizes .entry))) processor ⌝ }
-    ensures { λ r. ⌜ PlacedFits (placedFields r) ⌝ }
+pub(crate) fn fields_of_place(p: Placed) -> HpfPlaced
+    requires { ⌜ PlacedFits (placedAs p) ⌝ }
+    ensures { λ r. ⌜ placedFields r ≡ placedAs p ⌝ }
 {
-    match section::first_place(x, sizes, processor) {
+    match p {
         Placed::At(t) => HpfPlaced {
             refusal: 0,
             place: t.0 as u32,
@@ -135,6 +141,13 @@ pub(crate) fn placed_of(x: Section, sizes: &[u8], processor: i64) -> HpfPlaced
             place: 0,
         },
     }
+}
+
+pub(crate) fn placed_of(x: Section, sizes: &[u8], processor: i64) -> HpfPlaced
+    ensures { λ r. ⌜ placedFields r ≡ firstPlaceAt (sectionWith x (now (sizes .entry))) processor ⌝ }
+    ensures { λ r. ⌜ PlacedFits (placedFields r) ⌝ }
+{
+    fields_of_place(section::first_place(x, sizes, processor))
 }
 
 // The lowest position whose element a processor owns, or the count.
@@ -180,7 +193,7 @@ pub struct HpfFilled {
     pub place: u32,
 }
 
-fn fields_of(f: Filled) -> HpfFilled
+pub(crate) fn fields_of(f: Filled) -> HpfFilled
     requires { ⌜ FilledFits (reportAs f) ⌝ }
     ensures { λ r. ⌜ filledFields r ≡ reportAs f ⌝ }
 {

@@ -60,7 +60,7 @@ fn elements_along(l: Layout, r: Run) -> u64
 }
 
 // How many elements processor q has in its part.
-pub(crate) fn elements_in(l: Layout, q: u64, part: Part) -> u64
+pub fn elements_in(l: Layout, q: u64, part: Part) -> u64
     requires { ⌜ Dealt l q × Low part ⌝ }
     ensures { λ r. ⌜ r ≡ heldIn l q part ⌝ }
 {
@@ -79,7 +79,7 @@ fn element_along(l: Layout, r: Run, x: Address) -> Index
 }
 
 // The element that local address x of processor q's part leads back to.
-pub(crate) fn element_in(l: Layout, q: u64, part: Part, x: Address) -> Index
+pub fn element_in(l: Layout, q: u64, part: Part, x: Address) -> Index
     requires { ⌜ Dealt l q × Low part × (x .0 < heldIn l q part) ⌝ }
     ensures { λ i. ⌜ i .0 ≡ foundIn l q part (x .0) ⌝ }
 {
@@ -120,7 +120,7 @@ fn home_in_runs(l: Layout, sizes: &[u8], i: Index) -> Home
     }
 }
 
-pub(crate) fn home_of(l: Layout, d: Dealing, sizes: &[u8], i: Index) -> Home
+pub fn home_of(l: Layout, d: Dealing, sizes: &[u8], i: Index) -> Home
     requires { ⌜ Listed l (dealingWith d (now sizes)) × Sized l × (i .0 < l .size) ⌝ }
     ensures { λ r. ⌜ (r .processor ≡ ownerFor l (dealingWith d (now (sizes .entry))) (i .0))
         × (r .address .0 ≡ rank (ownerFor l (dealingWith d (now (sizes .entry)))) (i .0)) ⌝ }

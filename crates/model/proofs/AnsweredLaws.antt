@@ -18,6 +18,15 @@ by-first-no P qs made accepted refused = go (eqb (firstNo qs) 0) refl
     go true p = accepted (eqb-true (firstNo qs) 0 p)
     go false p = refused (eqb-false (firstNo qs) 0 p)
 
+-- answers of two calls whose first no is the same, in any relation
+pub answers-alike : {A B : Type 0} (R : A → B → Type 0) (xs ys : List Question) → firstNo xs ≡ firstNo ys
+    → (a : A) (b : B) (f : ℕ → A) (g : ℕ → B) → (firstNo ys ≡ 0 → R a b) → ((n : ℕ) → R (f n) (g n))
+    → R (cond (eqb (firstNo xs) 0) a (f (firstNo xs))) (cond (eqb (firstNo ys) 0) b (g (firstNo ys)))
+answers-alike {A} {B} R xs ys e a b f g full none =
+    rw e
+    (by-first-no {A = A × B} (λ p. R (p .0) (p .1)) ys (λ t. (cond t a (f (firstNo ys)), cond t b (g (firstNo ys)))) full
+    (λ no. none (firstNo ys)))
+
 -- ---- how large a refusal is
 
 -- no question's number is above b
@@ -37,10 +46,10 @@ refusal-le b (q ∷ qs) h = go (refusal-le b qs (each .1)) (q .holds) refl
     go ih true p = rw p ih
     go ih false p = rw p (leb-true (q .number) b (each .0))
 
--- a call's answer is a where no question is answered no, and else r, the refusal; questions are numbered to 16
-pub answered : {A : Type 0} (P : A → Type 0) (qs : List Question) → numberedTo 16 qs ≡ true → (a r : A)
-    → (firstNo qs ≡ 0 → P a) → (firstNo qs ≤ 16 → P r) → P (cond (eqb (firstNo qs) 0) a r)
-answered P qs h a r accepted refused = by-first-no P qs (λ b. cond b a r) accepted (λ f. refused (refusal-le 16 qs h))
+-- a call's answer is a where no question is answered no, and else r, the refusal; questions are numbered to 17
+pub answered : {A : Type 0} (P : A → Type 0) (qs : List Question) → numberedTo 17 qs ≡ true → (a r : A)
+    → (firstNo qs ≡ 0 → P a) → (firstNo qs ≤ 17 → P r) → P (cond (eqb (firstNo qs) 0) a r)
+answered P qs h a r accepted refused = by-first-no P qs (λ b. cond b a r) accepted (λ f. refused (refusal-le 17 qs h))
 
 -- ---- demand 1
 

@@ -16,16 +16,18 @@ use Rattle.model.specs.Mappings.{Section}
 use Rattle.model.specs.Ownership.{nat, owns, rank, owner}
 use Rattle.model.specs.Sections.{count, index, address, ownsAt}
 use Rattle.model.specs.Steps.{nextPlace}
-use Rattle.model.specs.Filling.{Walk, Filled, stopped, wrote, fillBy}
-use Rattle.model.specs.Questions.{firstNo, ofSection}
+use Rattle.model.specs.Filling.{Walk, Filled, stopped, wrote, fillBy, Outcome}
+use Rattle.model.specs.Questions.{Question, firstNo, ofSection}
+use Rattle.model.specs.Axes.{Axis, axisOf, ownsOn, walkOn}
 use Rattle.model.specs.Calls.{FillCall, walkOf, fill}
-use Rattle.model.specs.ByteFills.{ByteFill, inWords, storeEntries, bytesAfter, outcomeOf}
+use Rattle.model.specs.ByteFills.{ByteFill, inWords, storeEntries, bytesBy, outcomeBy, bytesAfter, outcomeOf}
+use Rattle.model.specs.Demand1.{Answers}
 use Rattle.model.proofs.AcceptedLaws.{accepted}
 use Rattle.model.proofs.FillCalls.{fill-cases}
 use Rattle.model.proofs.SectionLaws.{index-lt}
-use Rattle.model.proofs.AddressLaws.{owns-of}
-use Rattle.model.proofs.Walking.{Walks, walks}
-use Rattle.model.proofs.Fronts.{fronts}
+use Rattle.model.proofs.AxisLaws.{WalksOn}
+use Rattle.model.proofs.RowLaws.{next-least, next-within}
+use Rattle.model.proofs.Walking.{walks-on}
 use Rattle.model.proofs.ByteStores.{AllFit, stores-rest, stores-words}
 
 -- ---- what a fill leaves in its list
@@ -40,7 +42,7 @@ pub record Written (l : List ℕ) (f : Filled) : Type 0 where
 written-number : {l : List ℕ} {f : Filled} → Written l f → length (take (f .entries) (f .list)) ≡ f .entries
 written-number {l} {f} w = length-take-le (f .entries) (f .list) (omega (arith, w .inside, w .long))
 
-stopped-written : (t : ℕ) (l : List ℕ) → Written l (stopped t l)
+pub stopped-written : (t : ℕ) (l : List ℕ) → Written l (stopped t l)
 stopped-written t l = record { inside = zero-le; long = refl; rest = refl; fit = tt }
 
 unwritten : (l : List ℕ) (f : Filled) → f .entries ≡ 0 → f .list ≡ l → Written l f
@@ -69,58 +71,90 @@ stored-words bs f w =
     stores-words bs 0 (take (f .entries) (f .list)) (omega (arith, number, w .inside, words-length 4 bs)) (w .fit)
     ∙ rw (number, zero-add, ← w .rest) (take-append-drop (f .entries) (f .list))
 
+-- ---- a fill of a section of any rank
+
+-- an address is no larger than its element's number, whoever the owner
+rank-le : (o : ℕ → ℕ) (i : ℕ) → rank o i ≤ i
+unfolding rank
+rank-le o i = tally-le (owns o (o i)) i
+
+pub written-on : (a : Axis) → WalksOn a → ((t : ℕ) → t < a .count → a .element t < 256 ^ 4)
+    → (t quota : ℕ) (l : List ℕ) → t ≤ a .count → Written l (fillBy (walkOn a) t quota l)
+written-on a walk low =
+    fill-written (walkOn a) (λ t h. omega (arith, rank-le (a .array .owner) (a .element t), low t h)) (next-within a walk)
+
 -- ---- a section's fill
 
 module _ (x : Section) (ok : firstNo (ofSection x) ≡ 0) (t : ℕ) (h : t < count x) where
-  -- an address is no larger than its index, whoever the owner
+  index-low : index x t < 2147483648
+  index-low = omega (arith, index-lt x ok t h, accepted x ok .sized .size-high)
+
   pub rank-low : (o : ℕ → ℕ) → rank o (index x t) < 2147483648
-  unfolding rank
-  rank-low o = omega (arith, tally-le (owns o (o (index x t))) (index x t), index-lt x ok t h, accepted x ok .sized .size-high)
+  rank-low o = omega (arith, rank-le o (index x t), index-low)
 
   pub address-low : address x t < 2147483648
   unfolding address
   address-low = rank-low (owner (x .mapping))
 
-  -- the place after one of processor q is the count or the next one of q
-  next : (q : ℕ) → ownsAt x q t ≡ true → (nextPlace x t ≤ count x) × (nextPlace x t < count x → ownsAt x q (nextPlace x t) ≡ true)
-  unfolding Walks
-  next q mine =
-      let f = fronts (ownsAt x q) (count x - suc t) (suc t) 0 (count x) (omega arith) in
-      rw (walks x ok q t h mine) (f .within, f .passes)
-
   pub next-le : nextPlace x t ≤ count x
-  unfolding ownsAt
-  next-le = next (owner (x .mapping) (index x t)) (owns-of (owner (x .mapping)) _ (index x t) refl) .0
+  next-le = next-within (axisOf x) (walks-on x ok) t h
 
+  -- the place after one of processor q is the count or the next one of q
   pub next-owned : (q : ℕ) → ownsAt x q t ≡ true → nextPlace x t < count x → ownsAt x q (nextPlace x t) ≡ true
-  next-owned q mine = next q mine .1
+  unfolding ownsAt ownsOn
+  next-owned q mine = next-least (axisOf x) (walks-on x ok) q t h mine .passes
 
 pub fill-leaves : (c : FillCall) → Written (c .list) (fill c .filled)
-unfolding walkOf
+unfolding walkOf address
 fill-leaves c =
     fill-cases c (Written (c .list))
     (λ y.
-    fill-written (walkOf (c .section)) (λ t h. omega (arith, address-low (c .section) (y .section) t h)) (next-le (c .section) (y .section))
+    written-on (axisOf (c .section)) (walks-on (c .section) (y .section)) (λ t h. omega (arith, index-low (c .section) (y .section) t h))
     (nat (c .place)) (nat (c .quota)) (c .list) (y .place))
     (λ f z. unwritten (c .list) f (z .0 .0) (z .1))
 
 -- ---- a byte fill
 
-module _ (c : ByteFill) where
-  w : Written (wordsOf 4 (c .bytes)) (fill (inWords c) .filled)
-  unfolding inWords
-  w = fill-leaves (inWords c)
+-- bytes after the entries written stay, those that are no entry among them
+pub stays-after : (bs : List ℕ) (f : Filled) → Written (wordsOf 4 bs) f
+    → (m : ℕ) → 4 * f .entries ≤ m → drop m (bytesBy bs f) ≡ drop m bs
+stays-after bs f w m h = stores-rest bs 0 _ m (omega (arith, written-number w))
 
-  -- bytes after the entries written stay, those that are no entry among them
+-- what it returns is what the fill of its words does
+pub outcome-by : (bs : List ℕ) (o : Outcome) → Written (wordsOf 4 bs) (o .filled) → outcomeBy bs o ≡ o
+outcome-by bs o w = rw (stored-words bs (o .filled) w)
+
+-- a refused fill stores nothing
+pub byte-answers : (Full Nothing : Filled → Type 0) (bs : List ℕ) (o : Outcome) (qs : List Question)
+    → Written (wordsOf 4 bs) (o .filled) → ((f : Filled) → Nothing f → f .entries ≡ 0)
+    → Answers o (λ a. a .refusal) qs (λ a. Full (a .filled)) (λ a. Nothing (a .filled))
+    → Answers (outcomeBy bs o) (λ a. a .refusal) qs
+    (λ a. Full (a .filled) × (bytesBy bs (o .filled) ≡ storeEntries bs 0 (take (a .filled .entries) (a .filled .list))))
+    (λ a. Nothing (a .filled) × (bytesBy bs (o .filled) ≡ bs))
+unfolding storeEntries
+byte-answers Full Nothing bs o qs w none a =
+    rw (outcome-by bs o w)
+    (record {
+      first = a .first;
+      every = a .every;
+      accepted = λ e. (a .accepted e, refl);
+      refused = λ g. let n = a .refused g in (n, rw (none (o .filled) n));
+    })
+
+module _ (c : ByteFill) where
+  pub words-left : Written (wordsOf 4 (c .bytes)) (fill (inWords c) .filled)
+  unfolding inWords
+  words-left = fill-leaves (inWords c)
+
   pub bytes-stay : (m : ℕ) → 4 * outcomeOf c .filled .entries ≤ m → drop m (bytesAfter c) ≡ drop m (c .bytes)
   unfolding bytesAfter outcomeOf
-  bytes-stay m h = stores-rest (c .bytes) 0 _ m (omega (arith, written-number w))
+  bytes-stay = stays-after (c .bytes) (fill (inWords c) .filled) words-left
 
   -- the words of the bytes afterwards are the list that the fill leaves
   pub words-after : wordsOf 4 (bytesAfter c) ≡ fill (inWords c) .filled .list
   unfolding bytesAfter
-  words-after = stored-words (c .bytes) (fill (inWords c) .filled) w
+  words-after = stored-words (c .bytes) (fill (inWords c) .filled) words-left
 
   pub outcome-is : outcomeOf c ≡ fill (inWords c)
   unfolding outcomeOf
-  outcome-is = rw words-after
+  outcome-is = outcome-by (c .bytes) (fill (inWords c)) words-left

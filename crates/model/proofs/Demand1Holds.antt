@@ -3,7 +3,7 @@ use Prim.Native.Nat.{ℕ}
 use mathlib.Core.Path.{_≡_, refl, sym, _∙_}
 use mathlib.Core.Bool.{Bool, true, false}
 use mathlib.Core.List.{List, [], _∷_, _++_}
-use lib.ListN.{take, length-map}
+use lib.ListN.{length-map}
 use borrow.Author.Tests.{eq-eqb, ne-eqb}
 use native.Mathlib.Omega.{arith}
 use Rattle.model.specs.declared.Steps.{Steps}
@@ -13,34 +13,19 @@ use Rattle.model.specs.Steps.{stepsOf}
 use Rattle.model.specs.Questions.{ask, firstNo, ofMapping, ofSection, ofProcessor, ofIndex, ofAddress}
 use Rattle.model.specs.Calls.{ownership, goingBack, localCount, stepsReport, sectionSteps, firstPlaceAt}
 use Rattle.model.specs.Calls.{ofFill, fill}
-use Rattle.model.specs.ByteFills.{ByteFill, inWords, storeEntries, bytesAfter}
+use Rattle.model.specs.ByteFills.{inWords, bytesAfter, outcomeOf}
 use Rattle.model.specs.Transfers.{TransferCall, placesOf, withEntries, ofTransfer, entriesOf, transfers, listsAfter}
 use Rattle.model.specs.Sheets.{Sheet, IsPrint, Place, noSheet, Reads, formed, malformed}
-use Rattle.model.specs.Demand1.{Answers, Demand1, ByTheRule, NotFilled, Listed, NotListed, Decides}
+use Rattle.model.specs.Demand1.{Answers, Demand1, Listed, NotListed, Decides}
 use Rattle.model.proofs.AnsweredLaws.{either-of}
 use Rattle.model.proofs.FillCalls.{fill-answers}
-use Rattle.model.proofs.ByteFillsHold.{outcome-is}
+use Rattle.model.proofs.ByteFillsHold.{byte-answers, words-left}
 use Rattle.model.proofs.CheckpointsHold.{save-answers, load-answers}
 
 no-refusal : (n : ℕ) (s : Steps) → stepsReport n s .refusal ≡ 0
 no-refusal n NoStep = refl
 no-refusal n (OneStep x) = refl
 no-refusal n (TwoSteps r w) = refl
-
--- a refused fill stores nothing
-byte-fill-answers : (c : ByteFill)
-    → Answers (fill (inWords c)) (λ a. a .refusal) (ofFill (inWords c))
-    (λ a. ByTheRule (inWords c) (a .filled) × (bytesAfter c ≡ storeEntries (c .bytes) 0 (take (a .filled .entries) (a .filled .list))))
-    (λ a. NotFilled (inWords c) (a .filled) × (bytesAfter c ≡ c .bytes))
-unfolding bytesAfter storeEntries
-byte-fill-answers c =
-    let a = fill-answers (inWords c) in
-    record {
-      first = a .first;
-      every = a .every;
-      accepted = λ e. (a .accepted e, refl);
-      refused = λ g. let n = a .refused g in (n, rw (n .0 .0));
-    }
 
 -- the numbers of a transfer
 transfer-numbers : (c : TransferCall)
@@ -86,7 +71,7 @@ sheet-answers s e n w (malformed h) false d =
     record { first = refl; every = λ z. absurd (omega arith); accepted = λ z. absurd (omega arith); refused = λ f. (h, refl) }
 
 pub demand1 : Demand1
-unfolding ownership goingBack localCount sectionSteps firstPlaceAt
+unfolding ownership goingBack localCount sectionSteps firstPlaceAt outcomeOf bytesAfter
 demand1 = record {
   of-ownership = λ m i. either-of _ _ _ (ofMapping m ++ ofIndex m i) refl _ _ refl refl (refl, refl) (refl, (refl, tt));
   of-going-back = λ m q x. either-of _ _ _ (ofMapping m ++ ofProcessor m q ++ ofAddress m q x) refl _ _ refl refl refl refl;
@@ -95,7 +80,7 @@ demand1 = record {
       either-of _ _ _ (ofSection x) refl _ _ (no-refusal (count x) (stepsOf x)) refl refl ((refl, (refl, (refl, (refl, (refl, (refl, tt)))))), refl, refl);
   of-first-place = λ x q. either-of _ _ _ (ofSection x ++ ofProcessor (x .mapping) q) refl _ _ refl refl refl (refl, tt);
   of-fill = fill-answers;
-  of-byte-fill = λ c. rw (outcome-is c) (byte-fill-answers c);
+  of-byte-fill = λ c. byte-answers _ _ (c .bytes) (fill (inWords c)) (ofFill (inWords c)) (words-left c) (λ f n. n .0 .0) (fill-answers (inWords c));
   of-transfers = transfer-answers;
   of-save = save-answers;
   of-load = load-answers;

@@ -39,6 +39,16 @@ wrote-ahead a c r =
     let p : suc (r .entries) ≡ 1 + r .entries = omega arith in
     λ i. record { entries = p i; tries = c + r .tries; place = r .place; list = a ∷ r .list }
 
+-- what r wrote, and then what g gives
+abbrev pub followed : Filled → Filled → Filled
+followed r g = ahead (r .entries) (r .tries) (take (r .entries) (r .list)) g
+
+pub wrote-followed : (a c : ℕ) (r g : Filled) → wrote a c (followed r g) ≡ followed (wrote a c r) g
+wrote-followed a c r g =
+    let p : suc (r .entries + g .entries) ≡ suc (r .entries) + g .entries = omega arith in
+    let q : c + (r .tries + g .tries) ≡ c + r .tries + g .tries = omega arith in
+    λ i. record { entries = p i; tries = q i; place = g .place; list = a ∷ take (r .entries) (r .list) ++ g .list }
+
 -- what r wrote, written over the list l
 abbrev over : Filled → List ℕ → Filled
 over r l = record { entries = r .entries; tries = r .tries; place = r .place; list = take (r .entries) (r .list) ++ drop (r .entries) l }
@@ -53,12 +63,12 @@ module _ (w : Walk) where
   pub starts : (t quota : ℕ) (l : List ℕ) → Going (fillBy w t quota l) quota l t 0 0
   starts t quota l = record { room = omega arith; left = omega arith; is = simp (zero-add, sub-zero) }
 
-  writes : (t quota x : ℕ) (xs : List ℕ) → (t ≡ w .count → ⊥) → w .least ≤ quota
+  pub writes : (t quota x : ℕ) (xs : List ℕ) → (t ≡ w .count → ⊥) → w .least ≤ quota
       → fillBy w t quota (x ∷ xs) ≡ wrote (w .address t) (w .cost t) (fillBy w (w .next t) (quota - w .cost t) xs)
   unfolding fillBy
   writes t quota x xs h k = rw (ne-eqb t (w .count) h, le-ltb quota (w .least) k)
 
-  stops : (t quota : ℕ) (xs : List ℕ) → (eqb t (w .count) || ltb quota (w .least)) ≡ true → fillBy w t quota xs ≡ stopped t xs
+  pub stops : (t quota : ℕ) (xs : List ℕ) → (eqb t (w .count) || ltb quota (w .least)) ≡ true → fillBy w t quota xs ≡ stopped t xs
   unfolding fillBy
   stops t quota [] e = refl
   stops t quota (x ∷ xs) e = rw e
@@ -99,17 +109,13 @@ module _ (w : Walk) where
 
   -- what r gives, and then the fill of the entries that it left and of l
   andThen : ℕ → Filled → List ℕ → Filled
-  andThen quota r l =
-      ahead (r .entries) (r .tries) (take (r .entries) (r .list))
-      (fillBy w (r .place) (quota - r .tries) (drop (r .entries) (r .list) ++ l))
+  andThen quota r l = followed r (fillBy w (r .place) (quota - r .tries) (drop (r .entries) (r .list) ++ l))
 
   wrote-then : (quota a c : ℕ) (r : Filled) (l : List ℕ) → wrote a c (andThen (quota - c) r l) ≡ andThen quota (wrote a c r) l
   unfolding andThen
   wrote-then quota a c r l =
-      let one : 1 + r .entries ≡ suc (r .entries) = omega arith in
-      wrote-ahead a c (andThen (quota - c) r l)
-      ∙ ahead-ahead 1 c (r .entries) (r .tries) (a ∷ []) (take (r .entries) (r .list)) (fillBy w (r .place) (quota - c - r .tries) (drop (r .entries) (r .list) ++ l))
-      ∙ rw (one, sub-add-eq quota c (r .tries))
+      wrote-followed a c r (fillBy w (r .place) (quota - c - r .tries) (drop (r .entries) (r .list) ++ l))
+      ∙ rw (sub-add-eq quota c (r .tries))
 
   -- a fill of two lists is the fill of the first, and then that
   fill-append : (t quota : ℕ) (k l : List ℕ) → fillBy w t quota (k ++ l) ≡ andThen quota (fillBy w t quota k) l
@@ -147,34 +153,45 @@ module _ (w : Walk) where
           );
     }
 
+    -- what g wrote at the front of ys, and then the fill of the rest of ys from place u
+    pub goes-by : Going f quota l t paid n → (g : Filled) (u : ℕ) (ys : List ℕ)
+        → fillBy w t (quota - paid) (drop n l) ≡ followed g (fillBy w u (quota - paid - g .tries) (drop (g .entries) ys))
+        → take (g .entries) ys ≡ take (g .entries) (g .list) → g .entries ≤ length ys → g .tries ≤ quota - paid
+        → Going f quota (take n l ++ ys) u (paid + g .tries) (n + g .entries)
+    goes-by v g u ys e front inside cheap =
+        let before : length (take n l) ≡ n = length-take-le n l (v .room) in
+        let first : take (n + g .entries) (take n l ++ ys) ≡ take n l ++ take (g .entries) (g .list) =
+        ap (λ (m : ℕ). take (m + g .entries) (take n l ++ ys)) (sym before)
+        ∙ take-append-add (take n l) ys (g .entries)
+        ∙ ap (λ (z : List ℕ). take n l ++ z) front in
+        let rest : drop (n + g .entries) (take n l ++ ys) ≡ drop (g .entries) ys =
+        ap (λ (m : ℕ). drop (m + g .entries) (take n l ++ ys)) (sym before)
+        ∙ drop-append-add (take n l) ys (g .entries) in
+        record {
+          room = omega (arith, before, length-append (take n l) ys);
+          left = omega (arith, v .left);
+          is =
+              v .is
+              ∙ ap (ahead n paid (take n l)) e
+              ∙ ahead-ahead n paid (g .entries) (g .tries) (take n l) (take (g .entries) (g .list)) _
+              ∙ rw (first, rest, sub-add-eq quota paid (g .tries));
+        }
+
     -- the fill g of the next entries, so many, and not of those after them
     pub goes-far : Going f quota l t paid n → (room : ℕ) {g : Filled} → fillBy w t (quota - paid) (take room (drop n l)) ≡ g
         → g .entries ≤ length (g .list) → g .tries ≤ quota - paid
         → Going f quota (take n l ++ (g .list ++ drop room (drop n l))) (g .place) (paid + g .tries) (n + g .entries)
     unfolding andThen
     goes-far v room {g} e inside cheap =
-        let before : length (take n l) ≡ n = length-take-le n l (v .room) in
         let rest : List ℕ = drop room (drop n l) in
-        let after : List ℕ = g .list ++ rest in
-        let front : take (n + g .entries) (take n l ++ after) ≡ take n l ++ take (g .entries) (g .list) =
-        ap (λ (m : ℕ). take (m + g .entries) (take n l ++ after)) (sym before)
-        ∙ take-append-add (take n l) after (g .entries)
-        ∙ ap (λ (z : List ℕ). take n l ++ z) (take-append-le (g .entries) (g .list) rest inside) in
-        let back : drop (n + g .entries) (take n l ++ after) ≡ drop (g .entries) (g .list) ++ rest =
-        ap (λ (m : ℕ). drop (m + g .entries) (take n l ++ after)) (sym before)
-        ∙ drop-append-add (take n l) after (g .entries)
-        ∙ drop-append-le (g .entries) (g .list) rest inside in
-        record {
-          room = omega (arith, before, length-append (take n l) (g .list ++ drop room (drop n l)), length-append (g .list) rest);
-          left = omega (arith, v .left);
-          is =
-              v .is
-              ∙ ap (λ (z : List ℕ). ahead n paid (take n l) (fillBy w t (quota - paid) z)) (sym (take-append-drop room (drop n l)))
-              ∙ ap (ahead n paid (take n l)) (fill-append t (quota - paid) (take room (drop n l)) rest)
-              ∙ ap (λ (r : Filled). ahead n paid (take n l) (andThen (quota - paid) r rest)) e
-              ∙ ahead-ahead n paid (g .entries) (g .tries) (take n l) (take (g .entries) (g .list)) _
-              ∙ rw (front, back, sub-add-eq quota paid (g .tries));
-        }
+        goes-by v g (g .place) (g .list ++ rest)
+        (ap (fillBy w t (quota - paid)) (sym (take-append-drop room (drop n l)))
+        ∙ fill-append t (quota - paid) (take room (drop n l)) rest
+        ∙ ap (λ (r : Filled). andThen (quota - paid) r rest) e
+        ∙ rw (drop-append-le (g .entries) (g .list) rest inside))
+        (take-append-le (g .entries) (g .list) rest inside)
+        (omega (arith, length-append (g .list) rest))
+        cheap
 
     -- nothing more is written
     ends : Going f quota l t paid n → fillBy w t (quota - paid) (drop n l) ≡ stopped t (drop n l)

@@ -13,19 +13,19 @@ use Rattle.model.specs.Mappings.{Dealing, cyclic, genBlock, Section}
 use Rattle.model.specs.declared.Step.{Step}
 use Rattle.model.specs.declared.Steps.{Steps}
 use Rattle.model.specs.declared.Steps.the-variants.{NoStep, OneStep, TwoSteps}
-use Rattle.model.specs.Sections.{layout, count, cell, places}
+use Rattle.model.specs.Sections.{layout, count, cell}
 use Rattle.model.specs.Steps.{stepsBy, Going, fits, goOn, spread, upward, cyclicSteps, cyclicGoing, isPast, nextBy, cyclicNext, runSteps, runNext}
 use Rattle.model.specs.Steps.{stepsDealt, stepsOf, costDealt, cost, nextDealt, nextPlace}
 use Rattle.model.specs.Questions.{firstNo, ofSection}
-use Rattle.model.specs.Calls.{walkOf}
+use Rattle.model.specs.Axes.{axisOf, placesOn}
 use Rattle.model.specs.Demand3.{apart, IsStep}
 use Rattle.model.proofs.Rests.{le-or-lt}
 use Rattle.model.proofs.SectionLaws.{cells-apart, spread-pos}
 use Rattle.model.proofs.StepLaws.{Multiple}
 use Rattle.model.proofs.WalkTheorem.{going-nearest}
 use Rattle.model.proofs.InTurnLaws.{leads-next}
-use Rattle.model.proofs.SectionFills.{places-lead}
-use Rattle.model.proofs.OnceLaws.{at-place}
+use Rattle.model.proofs.AxisLaws.{places-lead, at-place}
+use Rattle.model.proofs.Walking.{walks-on}
 
 -- ---- going on
 
@@ -133,10 +133,14 @@ module _ (x : Section) (ok : firstNo (ofSection x) ≡ 0) (t : ℕ) where
 -- ---- neighbours
 
 module _ (x : Section) (ok : firstNo (ofSection x) ≡ 0) where
-  pub neighbours-apart : (q j : ℕ) → suc j < length (places x q)
-      → IsStep (stepsOf x) (apart (cell x (getD (places x q) j 0)) (cell x (getD (places x q) (suc j) 0)))
-  unfolding nextPlace stepsOf walkOf
+  -- the next place after one of the section lies a step on
+  pub next-apart : (t : ℕ) → t < count x → nextPlace x t < count x → IsStep (stepsOf x) (apart (cell x t) (cell x (nextPlace x t)))
+  unfolding nextPlace stepsOf
+  next-apart t = step-apart x ok t (x .mapping .dealing)
+
+  pub neighbours-apart : (q j : ℕ) → suc j < length (placesOn (axisOf x) q)
+      → IsStep (stepsOf x) (apart (cell x (getD (placesOn (axisOf x) q) j 0)) (cell x (getD (placesOn (axisOf x) q) (suc j) 0)))
   neighbours-apart q j h =
-      let r = leads-next (places-lead x q ok) j h in
-      let t : ℕ = getD (places x q) j 0 in
-      rw (r .0) (step-apart x ok t (x .mapping .dealing) (at-place x q j (omega arith) .below) (subst (λ (z : ℕ). z < count x) (r .0) (r .1)))
+      let r = leads-next (places-lead (axisOf x) (walks-on x ok) q) j h in
+      let t : ℕ = getD (placesOn (axisOf x) q) j 0 in
+      rw (r .0) (next-apart t (at-place (axisOf x) q j (omega arith) .below) (subst (λ (z : ℕ). z < count x) (r .0) (r .1)))

@@ -23,6 +23,13 @@ use Rattle.model.proofs.ShiftedHolds.{shifted}
 use Rattle.model.proofs.Document01Holds.{as-document-01}
 use Rattle.model.proofs.StarredHold.{starred}
 use Rattle.model.proofs.GenBlockRowsHold.{rows-hold}
+use Rattle.model.proofs.GridRowsHold.{grid-rows-hold, grid-refusals-hold, section-refusals-hold}
+use Rattle.model.proofs.GridFillCalls.{grid-bytes-stay}
+use Rattle.model.proofs.GridDemand1Holds.{grid-demand1}
+use Rattle.model.proofs.GridDemand2Holds.{grid-demand2}
+use Rattle.model.proofs.GridAnswers.{grid-there-and-back, grid-back-and-there}
+use Rattle.model.proofs.GridDemand3Holds.{grid-demand3, grid-demand3-of-bytes}
+use Rattle.model.proofs.RankOneHolds.{as-rank-one}
 
 cyclic-balanced : (x : Section) → Accepts x → Balanced (layout x .block) (spread x) (cyclicSteps x)
 unfolding cyclicSteps
@@ -63,6 +70,17 @@ promises = record {
   bytes-stay = bytes-stay;
   assignment = assigned;
   checkpoints = checkpoints;
+  grid-answers = grid-demand1;
+  grid-owners = grid-demand2;
+  grid-there-and-back = grid-there-and-back;
+  grid-back-and-there = grid-back-and-there;
+  grid-word-fills = grid-demand3;
+  grid-byte-fills = grid-demand3-of-bytes;
+  grid-bytes-stay = grid-bytes-stay;
+  rank-one = as-rank-one;
   starred = starred;
   gen-block = rows-hold;
+  grid-rows = grid-rows-hold;
+  grid-refusals = grid-refusals-hold;
+  section-refusals = section-refusals-hold;
 }

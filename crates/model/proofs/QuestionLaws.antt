@@ -2,7 +2,7 @@
 use Prim.Native.Nat.{ℕ, _≤_, _<_, zero-le}
 use mathlib.Core.Path.{_≡_, refl, sym, ap, _∙_}
 use mathlib.Core.Bool.{Bool, true, false, not, _&&_, true≢false}
-use mathlib.Core.List.{List, [], _∷_, _++_}
+use mathlib.Core.List.{List, [], _∷_, _++_, append-nil}
 use native.Mathlib.Nat.{le-refl, not-suc-le-zero}
 use native.Mathlib.Omega.{arith}
 use lib.Dec.{leb, ltb, eqb}
@@ -52,6 +52,22 @@ stops (x ∷ xs) ys f = go (stops xs ys) (x .holds) refl
         → firstNo ((x ∷ xs) ++ ys) ≡ firstNo (x ∷ xs)
     go ih true p = rw p (ih (λ e. f (rw p e)))
     go ih false p = rw p
+
+-- questions that begin alike, and go on alike where the first ones are answered yes
+pub asks-alike : (xs ys us vs : List Question) → numbered xs ≡ true → numbered ys ≡ true → firstNo xs ≡ firstNo ys
+    → (firstNo ys ≡ 0 → firstNo us ≡ firstNo vs) → firstNo (xs ++ us) ≡ firstNo (ys ++ vs)
+asks-alike xs ys us vs n m e f = go (eqb (firstNo ys) 0) refl
+  where
+    go : (b : Bool) → eqb (firstNo ys) 0 ≡ b → firstNo (xs ++ us) ≡ firstNo (ys ++ vs)
+    go true p =
+        let z = eqb-true (firstNo ys) 0 p in
+        asks-on xs us (all-yes xs n (e ∙ z)) ∙ f z ∙ sym (asks-on ys vs (all-yes ys m z))
+    go false p = let no = eqb-false (firstNo ys) 0 p in stops xs us (λ z. no (sym e ∙ z)) ∙ e ∙ sym (stops ys vs no)
+
+-- where those after them are answered yes, the first ones decide
+pub asks-no-more : (xs us : List Question) → numbered xs ≡ true → (firstNo xs ≡ 0 → firstNo us ≡ 0) → firstNo (xs ++ us) ≡ firstNo xs
+unfolding firstNo
+asks-no-more xs us n f = asks-alike xs xs us [] n n refl f ∙ ap firstNo (append-nil xs)
 
 -- a number that no question of a list has is not its refusal
 abbrev pub lacks : ℕ → List Question → Bool

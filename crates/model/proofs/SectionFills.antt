@@ -1,74 +1,60 @@
--- Fills of one processor of a section, one after another, are fills in turn along the processor's list: over any form of call
--- whose outcome is that of the fill of words that it stands for.
-use Prim.Native.Nat.{ℕ, _≤_}
-use mathlib.Core.Path.{_≡_, refl, ap, subst, _∙_}
-use mathlib.Core.Bool.{Bool, true, false}
-use mathlib.Core.List.{List, [], _∷_, map}
-use lib.Dec.{eqb}
-use borrow.Author.Tests.{eqb-true}
+-- Sections of rank 1 are lawful, as a kind that is filled: their walk leads through each processor's list, and a fill from a
+-- place of a processor is accepted.
+use Prim.Native.Nat.{ℕ, _<_}
+use mathlib.Core.Path.{_≡_, refl, ap, _∙_}
+use mathlib.Core.Bool.{true}
+use mathlib.Core.List.{_++_}
+use lib.IntN.{pos}
 use Rattle.model.specs.Mappings.{Section}
-use Rattle.model.specs.Ownership.{nat}
-use Rattle.model.specs.Sections.{ownsAt, places, firstPlace}
-use Rattle.model.specs.Filling.{Request, Outcome, answer, standing}
-use Rattle.model.specs.Questions.{firstNo, ofSection}
-use Rattle.model.specs.Calls.{FillCall, walkOf, requestOf, fill}
-use Rattle.model.specs.Demand3.{Leads, Follows, Form, FollowsOn, Fills, outcomes, InTurn}
+use Rattle.model.specs.Ownership.{fromLower, layoutOf}
+use Rattle.model.specs.Sections.{elementAt, layout, count, index, address, ownsAt, places, firstPlace}
+use Rattle.model.specs.Questions.{firstNo, between, isPlace, ofSection, ofProcessor, ofPlace, ofQuota}
+use Rattle.model.specs.Axes.{axisOf, ownsOn, placesOn, firstOn}
+use Rattle.model.specs.Calls.{FillCall, ofFill, walkOf}
+use Rattle.model.specs.GridCalls.{isPlaceOn}
+use Rattle.model.specs.Demand3.{Leads, sections}
+use Rattle.model.proofs.AcceptedLaws.{mapping-yes}
+use Rattle.model.proofs.QuestionLaws.{all-yes, asks-on, none-no, is-below}
+use Rattle.model.proofs.SectionLaws.{index-lt, declared-at, index-inj}
+use Rattle.model.proofs.Demand2Holds.{owner-lt}
 use Rattle.model.proofs.FillCalls.{passed}
-use Rattle.model.proofs.Walking.{Walks, walks}
-use Rattle.model.proofs.InTurnLaws.{leads-passing, in-turn}
+use Rattle.model.proofs.Walking.{walks-on}
+use Rattle.model.proofs.AxisLaws.{IsPlace, place-asked}
+use Rattle.model.proofs.AxisLaws as axes
+use Rattle.model.proofs.KindLaws.{Laws}
+use Rattle.model.proofs.NeighbourLaws.{cost-le, neighbours-apart}
 
--- ---- one call
+pub places-lead : (x : Section) (q : ℕ) → firstNo (ofSection x) ≡ 0 → Leads (walkOf x) (firstPlace x q) (places x q)
+unfolding walkOf address firstPlace firstOn places placesOn ownsAt ownsOn
+places-lead x q ok = axes.places-lead (axisOf x) (walks-on x ok) q
 
--- an accepted fill has tries enough to go on
-quota-least : (c : FillCall) → requestOf c .refusal ≡ 0 → 3 ≤ requestOf c .quota
-unfolding requestOf
-quota-least c e = passed c e .quota .from
+module _ (x : Section) (ok : firstNo (ofSection x) ≡ 0) where
+  accepts : (c : FillCall) → c .section ≡ x → (q t : ℕ) → c .processor ≡ pos q → c .place ≡ pos t
+      → q < layout x .processors → IsPlace (axisOf x) q t → between (pos 3) (pos 1000000) (c .quota) ≡ true
+      → firstNo (ofFill c) ≡ 0
+  unfolding layout layoutOf isPlace isPlaceOn ownsAt ownsOn
+  accepts c s q t p e h place quota =
+      let last = ofProcessor (x .mapping) (pos q) ++ ofPlace x (pos q) (pos t) ++ ofQuota (c .quota) in
+      rw (s, p, e)
+      (asks-on (ofSection x) last (all-yes (ofSection x) refl ok)
+      ∙ none-no last (is-below q (x .mapping .processors) h, (place-asked (axisOf x) q t place, (quota, tt))))
 
--- a refused fill tells no walk from another
-fill-is : (x : Section) (c : FillCall) → (fill c .refusal ≡ 0 → c .section ≡ x) → fill c ≡ answer (walkOf x) (requestOf c)
-unfolding fill answer
-fill-is x c h = go (eqb (requestOf c .refusal) 0) refl
-  where
-    go : (b : Bool) → eqb (requestOf c .refusal) 0 ≡ b → fill c ≡ answer (walkOf x) (requestOf c)
-    go true e = ap (λ (z : Section). answer (walkOf z) (requestOf c)) (h (eqb-true (requestOf c .refusal) 0 e))
-    go false e = rw e
+  pub distinct : (t u : ℕ) → t < count x → u < count x → elementAt (x .triplet) t ≡ elementAt (x .triplet) u → t ≡ u
+  unfolding index
+  distinct t u h l e = index-inj x ok t u h l (ap (fromLower (x .mapping)) e)
 
--- ---- the places of a processor
-
-module _ (x : Section) (q : ℕ) (ok : firstNo (ofSection x) ≡ 0) where
-  pub places-lead : Leads (walkOf x) (firstPlace x q) (places x q)
-  unfolding Walks walkOf firstPlace places
-  places-lead = leads-passing (walkOf x) (ownsAt x q) (walks x ok q)
-
--- ---- calls one after another
-
--- the outcome of a call is that of the fill that it stands for
-abbrev pub Same : Form → Type 0
-Same f = (c : f .Call) → f .outcome c ≡ fill (f .words c)
-
--- they are requests that follow one another, with the same outcomes
-module _ (f : Form) (same : Same f) (x : Section) (q : ℕ) where
-  abbrev pub asked : List (f .Call) → List Request
-  asked cs = map (λ c. requestOf (f .words c)) cs
-
-  follows : (t : ℕ) (cs : List (f .Call)) → FollowsOn f x q t cs
-      → Follows (walkOf x) t (asked cs) × (outcomes f cs ≡ map (answer (walkOf x)) (asked cs))
-  unfolding Follows FollowsOn walkOf fill answer requestOf nat
-  follows t [] fs = (tt, refl)
-  follows t (c ∷ cs) fs =
-      let accepted : fill (f .words c) .refusal ≡ 0 → f .outcome c .refusal ≡ 0 = λ z. ap (λ (o : Outcome). o .refusal) (same c) ∙ z in
-      let e : f .outcome c ≡ answer (walkOf x) (requestOf (f .words c)) = same c ∙ fill-is x (f .words c) (λ z. fs .0 (accepted z) .section) in
-      let r = follows (standing t (f .outcome c ∷ [])) cs (fs .1) in (
-        (
-          (λ z. (ap nat (fs .0 (accepted z) .place), quota-least (f .words c) z)),
-          subst (λ (o : Outcome). Follows (walkOf x) (standing t (o ∷ [])) (asked cs)) e (r .0),
-        ),
-        (cc (r .1, e)),
-      )
-
-  pub section-fills : firstNo (ofSection x) ≡ 0 → (cs : List (f .Call)) → Fills f x q cs
-      → InTurn (walkOf x) (places x q) (asked cs) (outcomes f cs)
-  unfolding walkOf firstPlace
-  section-fills ok cs fs =
-      let g = follows (firstPlace x q) cs fs in
-      rw (g .1) (in-turn (walkOf x) (places x q) (asked cs) (places-lead x q ok) (g .0))
+pub section-laws : Laws sections
+unfolding layout
+section-laws = record {
+  lawful = λ x ok. record {
+    walks = walks-on x ok;
+    dealt = owner-lt (x .mapping) (mapping-yes x ok);
+    inside = index-lt x ok;
+    named = declared-at x ok;
+    distinct = distinct x ok;
+    accepts = accepts x ok;
+    neighbours = neighbours-apart x ok;
+    cheap = cost-le x;
+  };
+  quota = λ c e. passed c e .quota .from;
+}

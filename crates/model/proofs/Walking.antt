@@ -13,11 +13,13 @@ use Rattle.model.specs.Ownership.{layoutOf, cellOf, cellOwnerBy, ownerOf
 use Rattle.model.specs.Sections.{layout, count, index, cell, ownsAt}
 use Rattle.model.specs.Steps.{spread, upward, nextDealt, nextPlace}
 use Rattle.model.specs.Questions.{firstNo, ofSection}
+use Rattle.model.specs.Axes.{axisOf, ownsOn, laterOn}
 use Rattle.model.proofs.SectionLaws.{Moved, cells-moved}
 use Rattle.model.proofs.AddressLaws.{of-owns}
 use Rattle.model.proofs.RunOwners.{owners-rise}
 use Rattle.model.proofs.WalkTheorem.{cyclicOwns, CyclicWalks, cyclic-walks}
 use Rattle.model.proofs.RunWalks.{InRuns, run-walks}
+use Rattle.model.proofs.AxisLaws.{WalksOn}
 
 -- a number does not fall from a to b, or does not rise
 abbrev Ordered : Bool → ℕ → ℕ → Type 0
@@ -94,3 +96,8 @@ walks x ok q t h e = go (x .mapping .dealing) refl
         ap (λ (z : Dealing). nextDealt z x t) d
         ∙ run-walks at (count x) (in-runs x ok d) t h
         ∙ ap (λ (o : ℕ). headOr (count x) (passing (λ u. eqb (at u) o) (suc t) (count x - suc t))) (of-owns (owner (x .mapping)) q (index x t) e)
+
+-- as of any section's positions
+pub walks-on : (x : Section) → firstNo (ofSection x) ≡ 0 → WalksOn (axisOf x)
+unfolding WalksOn Walks ownsOn ownsAt laterOn
+walks-on x ok = walks x ok

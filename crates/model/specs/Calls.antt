@@ -102,12 +102,16 @@ firstPlaceAt x q =
 
 -- ---- fill
 
-pub record FillCall : Type 0 where
-  pub section : Section
+-- of a section of any kind
+pub record FillOf (S : Type 0) : Type 0 where
+  pub section : S
   pub processor : ℤ
   pub place : ℤ
   pub quota : ℤ
   pub list : List ℕ
+
+abbrev pub FillCall : Type 0
+FillCall = FillOf Section
 
 abbrev pub ofFill : FillCall → List Question
 ofFill c =

@@ -14,6 +14,10 @@ pub record Walk : Type 0 where
   pub count : ℕ
   pub least : ℕ
 
+-- a walk in storage that starts at an address: each address is so much higher
+abbrev pub onBase : ℕ → Walk → Walk
+onBase base w = record { address = λ t. base + w .address t; cost = w .cost; next = w .next; count = w .count; least = w .least }
+
 -- what a fill returns, and its list afterwards
 pub record Filled : Type 0 where
   pub entries : ℕ

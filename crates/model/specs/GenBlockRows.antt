@@ -13,7 +13,7 @@ use Rattle.model.specs.Starred.{Row, mapping, passed, owned, found, coun
 use Rattle.model.specs.Starred.{mapped, on, step}
 
 -- T, p, the sizes, the bytes left over, a, b, n, La and Lt
-abbrev runs : ℕ → ℕ → List ℤ → ℕ → ℕ → ℕ → ℕ → ℤ → ℤ → Mapping
+abbrev pub runs : ℕ → ℕ → List ℤ → ℕ → ℕ → ℕ → ℕ → ℤ → ℤ → Mapping
 runs T p sizes left a b n La Lt = record {
   cells = pos T;
   processors = pos p;
@@ -46,7 +46,7 @@ abbrev three : List ℤ → Mapping
 three sizes = whole 10 3 sizes 10
 
 -- as a call passes it: T, p, the dealing, and an array of one element
-abbrev given : ℕ → ℕ → Dealing → mappings.Mapping
+abbrev pub given : ℕ → ℕ → Dealing → mappings.Mapping
 given T p d = record {
   cells = pos T;
   processors = pos p;

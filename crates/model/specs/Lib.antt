@@ -6,8 +6,11 @@ pub mod Steps
 pub mod Filling
 pub mod Questions
 pub mod Sized
+pub mod Axes
+pub mod Grids
 pub mod Calls
 pub mod ByteFills
+pub mod GridCalls
 pub mod Transfers
 pub mod Storages
 pub mod Checkpoints
@@ -15,8 +18,12 @@ pub mod Sheets
 pub mod Demand1
 pub mod Demand2
 pub mod Demand3
+pub mod GridDemands
 pub mod Document01
 pub mod Shifted
 pub mod Starred
 pub mod GenBlockRows
+pub mod GridCases
+pub mod GridRows
+pub mod GridRefusals
 pub mod Promises

@@ -12,21 +12,29 @@ use Rattle.model.specs.Ownership.{nat}
 use Rattle.model.specs.Sections.{layout, count}
 use Rattle.model.specs.Steps.{spread, stepsOf}
 use Rattle.model.specs.Questions.{firstNo, ofSection}
+use Rattle.model.specs.Grids.{Three, Grid, GridSection, ofGridSection}
 use Rattle.model.specs.Calls.{ownership, goingBack}
 use Rattle.model.specs.ByteFills.{ByteFill, bytesAfter, outcomeOf}
+use Rattle.model.specs.GridCalls.{indicesIn, gridOwnership, gridGoingBack, GridByteFill, gridBytesAfter, gridOutcomeOf}
 use Rattle.model.specs.Transfers.{Assigned}
 use Rattle.model.specs.Checkpoints.{Checkpoints}
 use Rattle.model.specs.Demand1.{Demand1}
 use Rattle.model.specs.Demand2.{Demand2}
 use Rattle.model.specs.Demand3.{inWordLists, inByteLists, Demand3}
+use Rattle.model.specs.GridDemands.{GridDemand1, GridDemand2, inGridWordLists, inGridByteLists, AsRankOne}
 use Rattle.model.specs.Document01.{AsDocument01}
 use Rattle.model.specs.Shifted.{Shifted}
 use Rattle.model.specs.Starred.{every, table}
 use Rattle.model.specs.GenBlockRows.{genBlockRows}
+use Rattle.model.specs.GridRows.{everyRow, gridRows}
+use Rattle.model.specs.GridRefusals.{everyRefusal, gridRefusals, sectionRefusals}
 
 -- "a section is accepted if every question that concerns its mapping and itself is answered yes"
 abbrev pub Accepts : Section → Type 0
 Accepts x = firstNo (ofSection x) ≡ 0
+
+abbrev pub AcceptsGrid : GridSection → Type 0
+AcceptsGrid x = firstNo (ofGridSection x) ≡ 0
 
 -- "courses of return × column move of r + courses of r × y of return = S"; and from no column do both steps fit
 abbrev pub Balanced : ℕ → ℕ → Steps → Type 0
@@ -61,6 +69,25 @@ pub record Promises : Type 0 where
   pub assignment : (left right : Section) → Accepts left → Accepts right → count left ≡ count right → Assigned left right
   -- save and load
   pub checkpoints : Checkpoints
-  -- the starred cases, and those of our own for GEN_BLOCK
+  -- grids: demand 1; demand 2, and the calls of it undo each other up to the rank; demand 3; and the bytes that stay
+  pub grid-answers : GridDemand1
+  pub grid-owners : (x : GridSection) → AcceptsGrid x → GridDemand2 x
+  pub grid-there-and-back :
+      (g : Grid) (j : Three ℤ) → gridOwnership g j .refusal ≡ 0
+      → gridGoingBack g (pos (gridOwnership g j .processor)) (pos (gridOwnership g j .address))
+      ≡ record { refusal = 0; indices = indicesIn g j }
+  pub grid-back-and-there :
+      (g : Grid) (q x : ℤ) → gridGoingBack g q x .refusal ≡ 0
+      → gridOwnership g (gridGoingBack g q x .indices) ≡ record { refusal = 0; processor = nat q; address = nat x }
+  pub grid-word-fills : (x : GridSection) → AcceptsGrid x → Demand3 inGridWordLists x
+  pub grid-byte-fills : (x : GridSection) → AcceptsGrid x → Demand3 inGridByteLists x
+  pub grid-bytes-stay :
+      (c : GridByteFill) (m : ℕ) → 4 * gridOutcomeOf c .filled .entries ≤ m → drop m (gridBytesAfter c) ≡ drop m (c .bytes)
+  -- one of rank 1 answers as the calls of rank 1 do
+  pub rank-one : AsRankOne
+  -- the starred cases, and those of our own for GEN_BLOCK and for grids
   pub starred : T (every table)
   pub gen-block : T (every genBlockRows)
+  pub grid-rows : T (everyRow gridRows)
+  pub grid-refusals : T (everyRefusal gridRefusals)
+  pub section-refusals : T (everyRefusal sectionRefusals)

@@ -23,13 +23,13 @@ use Rattle.model.specs.Checkpoints.{copyOf, copying, saved, loaded}
 
 -- ---- equality, as a test
 
-abbrev sameList : List ℕ → List ℕ → Bool
+abbrev pub sameList : List ℕ → List ℕ → Bool
 sameList [] [] = true
 sameList [] (y ∷ ys) = false
 sameList (x ∷ xs) [] = false
 sameList (x ∷ xs) (y ∷ ys) = eqb x y && sameList xs ys
 
-abbrev sameNumbers : List ℤ → List ℤ → Bool
+abbrev pub sameNumbers : List ℤ → List ℤ → Bool
 sameNumbers [] [] = true
 sameNumbers [] (y ∷ ys) = false
 sameNumbers (x ∷ xs) [] = false
@@ -81,7 +81,7 @@ pub data Row : Type 0 where
 abbrev stepNumbers : StepReport → List ℤ
 stepNumbers r = pos (r .cells) ∷ pos (r .courses) ∷ r .column ∷ []
 
-abbrev reportNumbers : SectionStepsAnswer → List ℤ
+abbrev pub reportNumbers : SectionStepsAnswer → List ℤ
 reportNumbers a = pos (a .refusal) ∷ pos (a .count) ∷ pos (a .steps) ∷ stepNumbers (a .first) ++ stepNumbers (a .second)
 
 -- the fills of processor q with these quotas, each from the place that stands
@@ -143,7 +143,7 @@ mapped T p k a b n =
     record { cells = pos T; processors = pos p; dealing = cyclic (pos k); stride = pos a; offset = pos b; size = pos n; lower = pos 0; origin = pos 0 }
 
 -- the same with declared bounds
-abbrev bounded : ℕ → ℕ → ℕ → ℕ → ℤ → ℕ → ℤ → ℤ → Mapping
+abbrev pub bounded : ℕ → ℕ → ℕ → ℕ → ℤ → ℕ → ℤ → ℤ → Mapping
 bounded T p k a b n La Lt =
     record { cells = pos T; processors = pos p; dealing = cyclic (pos k); stride = pos a; offset = b; size = pos n; lower = La; origin = Lt }
 

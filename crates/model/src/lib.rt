@@ -63,6 +63,23 @@ pub struct Section {
     pub triplet: Triplet,
 }
 
+// An array of rank 1 to 3 on a grid of processors: a mapping for each dimension, of which those
+// past the rank are not looked at.
+pub struct Grid {
+    pub rank: i64,
+    pub first: Mapping,
+    pub second: Mapping,
+    pub third: Mapping,
+}
+
+// A section of it: one of each dimension.
+pub struct GridSection {
+    pub rank: i64,
+    pub first: Section,
+    pub second: Section,
+    pub third: Section,
+}
+
 // A step: its cells, its courses, and by how many columns it moves. The return step moves
 // as many columns back.
 pub struct Step {

@@ -13,7 +13,7 @@ use crate::section_library;
 use crate::transfer_enumeration::Places;
 
 impl Chained for Fill {
-    const REFUSALS: [usize; 11] = [1, 2, 16, 4, 5, 6, 7, 8, 10, 11, 15];
+    const REFUSALS: &'static [usize] = &[1, 2, 16, 4, 5, 6, 7, 8, 10, 11, 15];
 
     fn with(&self, place: i64, quota: i64) -> Fill {
         Fill {

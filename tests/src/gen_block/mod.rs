@@ -1,30 +1,30 @@
 //! Compares the library, on templates that are dealt by a list of sizes, with an
 //! enumeration of their cells.
 
-mod answers;
+pub mod answers;
 mod by_hand;
-mod enumeration;
-mod faults;
+pub mod enumeration;
+pub mod faults;
 mod large_lists;
-mod library;
+pub mod library;
 mod one_course;
-mod questions;
+pub mod questions;
 mod random_checkpoints;
-mod random_mappings;
+pub mod random_mappings;
 mod random_sections;
 mod random_transfers;
 mod refusals_by_hand;
-mod runs;
-mod section_library;
-mod sizes;
+pub mod runs;
+pub mod section_library;
+pub mod sizes;
 mod small_arrays;
 mod small_checkpoints;
 mod small_lists;
 mod small_sections;
 mod small_transfers;
-mod special_lists;
+pub mod special_lists;
 mod special_transfers;
-mod transfer_library;
+pub mod transfer_library;
 mod transfers_by_hand;
 
 use crate::Group;

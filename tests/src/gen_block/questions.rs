@@ -66,7 +66,7 @@ fn is_place(fill: &Fill) -> bool {
 }
 
 /// Questions 1 to 7 of a side, with 15, and 16 if it has sizes.
-fn of_side(side: &Side) -> i32 {
+pub fn of_side(side: &Side) -> i32 {
     if side.has_sizes() {
         of_mapping_and_section(&side.gen_block(), &side.triplet)
     } else {

@@ -89,7 +89,7 @@ pub fn whole_lists() -> impl Iterator<Item = Sizes> {
 }
 
 /// Each list with bytes more, or fewer, or none.
-fn lists_with_bytes() -> impl Iterator<Item = Sizes> {
+pub fn lists_with_bytes() -> impl Iterator<Item = Sizes> {
     whole_lists().flat_map(|sizes| LEFT_OVER.map(|left_over| with_bytes(&sizes, left_over)))
 }
 

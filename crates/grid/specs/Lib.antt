@@ -1,0 +1,4 @@
+-- The definitions that the contracts of `grid` cite.
+pub mod Ranks
+pub mod Dimensions
+pub mod Answers

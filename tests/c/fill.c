@@ -5,10 +5,11 @@
 #include <stdio.h>
 #include <string.h>
 
+#include "filled.h"
 #include "hpfaddr.h"
 #include "same.h"
 
-enum { ENTRIES = 3, ENTRY_BYTES = 4, MEMORY = 24, UNTOUCHED = 0x5a };
+enum { ENTRIES = 3, MEMORY = 24 };
 
 static const hpf_mapping dense = {96, 3, 4, 1, 0, 96, 0, 0};
 static const hpf_mapping every_third_cell = {144, 4, 4, 3, 0, 48, 0, 0};
@@ -53,16 +54,6 @@ static hpf_filled fill(hpf_mapping m, hpf_triplet s, int64_t processor, int64_t 
     return plain;
 }
 
-/* The first addresses of a list. */
-static void print_addresses(const uint8_t *list, int32_t entries)
-{
-    for (int32_t i = 0; i < entries; i++) {
-        const uint8_t *entry = list + ENTRY_BYTES * i;
-        uint32_t address = entry[0] | (uint32_t)entry[1] << 8 | (uint32_t)entry[2] << 16 | (uint32_t)entry[3] << 24;
-        printf(" %" PRIu32, address);
-    }
-}
-
 /* A processor's whole list, in fills of a few entries. */
 static void print_list(hpf_mapping m, hpf_triplet s, int64_t processor)
 {
@@ -103,26 +94,14 @@ static void print_section(hpf_mapping m, hpf_triplet s)
         print_list(m, s, processor);
 }
 
-static void print_filled(const char *name, hpf_filled filled)
-{
-    printf("%s: %" PRId32 " %" PRId32 " %" PRId32 " %" PRId32, name, filled.refusal, filled.entries, filled.tries,
-           filled.place);
-}
-
 /* One fill of the dense array into a list at an odd place in memory, and how many bytes it wrote there. */
 static void print_fill(const char *name, hpf_triplet s, int64_t processor, int64_t place, int64_t quota,
                        size_t list_bytes)
 {
     uint8_t memory[MEMORY], *list = list_bytes == 0 ? NULL : memory + 1;
-    size_t written = 0;
     memset(memory, UNTOUCHED, sizeof memory);
     hpf_filled filled = fill(dense, s, processor, place, quota, list, list_bytes);
-    for (size_t i = 0; i < sizeof memory; i++)
-        written += memory[i] != UNTOUCHED;
-    print_filled(name, filled);
-    printf(", %zu bytes written:", written);
-    print_addresses(memory + 1, filled.entries);
-    printf("\n");
+    print_written(name, filled, memory, sizeof memory);
 }
 
 static void print_fills(void)

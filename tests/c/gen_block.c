@@ -8,10 +8,11 @@
 #include <stdio.h>
 #include <string.h>
 
+#include "filled.h"
 #include "hpfaddr.h"
 #include "same.h"
 
-enum { ENTRIES = 2, ENTRY_BYTES = 4, MEMORY = 32, UNTOUCHED = 0x5a };
+enum { ENTRIES = 2, MEMORY = 32 };
 
 #define SIZES(list) .sizes = (const uint8_t *)list, .sizes_bytes = sizeof list
 
@@ -107,16 +108,6 @@ static void print_array(hpf_gen_block_mapping m)
     }
 }
 
-/* The first addresses of a list. */
-static void print_addresses(const uint8_t *list, int32_t entries)
-{
-    for (int32_t i = 0; i < entries; i++) {
-        const uint8_t *entry = list + ENTRY_BYTES * i;
-        uint32_t address = entry[0] | (uint32_t)entry[1] << 8 | (uint32_t)entry[2] << 16 | (uint32_t)entry[3] << 24;
-        printf(" %" PRIu32, address);
-    }
-}
-
 /* A processor's whole list, in fills of a few entries. */
 static void print_list(hpf_gen_block_mapping m, hpf_triplet s, int64_t processor, int64_t count)
 {
@@ -153,15 +144,9 @@ static void print_fill(const char *name, hpf_gen_block_mapping m, int64_t proces
                        size_t list_bytes)
 {
     uint8_t memory[MEMORY], *list = list_bytes == 0 ? NULL : memory + 1;
-    size_t written = 0;
     memset(memory, UNTOUCHED, sizeof memory);
     hpf_filled filled = fill(m, dense, processor, place, quota, list, list_bytes);
-    for (size_t i = 0; i < sizeof memory; i++)
-        written += memory[i] != UNTOUCHED;
-    printf("%s: %" PRId32 " %" PRId32 " %" PRId32 " %" PRId32 ", %zu bytes written:", name, filled.refusal,
-           filled.entries, filled.tries, filled.place, written);
-    print_addresses(memory + 1, filled.entries);
-    printf("\n");
+    print_written(name, filled, memory, sizeof memory);
 }
 
 static void print_fills(void)

@@ -5,6 +5,7 @@ program fill
   use hpfaddr
   implicit none
 
+  integer(c_int8_t), parameter :: untouched = 90
   type(hpf_mapping), parameter :: dense = hpf_mapping(96, 3, 4, 1, 0, 96)
   type(hpf_mapping), parameter :: every_third_cell = hpf_mapping(144, 4, 4, 3, 0, 48)
   type(hpf_mapping), parameter :: small = hpf_mapping(12, 3, 2, 1, 0, 12)
@@ -92,6 +93,7 @@ contains
   end function list_in
 
   include 'same.inc'
+  include 'filled.inc'
 
   subroutine print_section(m, s)
     type(hpf_mapping), intent(in) :: m
@@ -171,15 +173,11 @@ contains
     type(hpf_triplet), intent(in) :: s
     integer(i64), intent(in) :: processor, place, quota
     integer, intent(in) :: list_bytes
-    integer(c_int8_t), parameter :: untouched = 90
     integer(c_int8_t) :: memory(24)
     type(hpf_filled) :: filled
     memory = untouched
     filled = fill_bytes(dense, s, processor, place, quota, memory, list_bytes)
-    call print_filled(name, filled)
-    write (*, '(a, i0, a)', advance='no') ', ', count(memory /= untouched), ' bytes written:'
-    call print_addresses(transfer(memory(2:), [0_c_int32_t], int(filled%entries)))
-    write (*, '()')
+    call print_written(name, filled, memory)
   end subroutine print_fill
 
   subroutine print_fills()

@@ -7,6 +7,7 @@ program gen_block
   implicit none
 
   integer, parameter :: room = 32
+  integer(c_int8_t), parameter :: untouched = 90
   integer(i32), parameter :: by_work(4) = [3, 0, 5, 4]
   ! A template of 10 cells, of which the last processor has 2.
   type(hpf_gen_block_mapping) :: uneven
@@ -123,6 +124,7 @@ contains
   end function list_in
 
   include 'same.inc'
+  include 'filled.inc'
 
   ! Each processor's elements by address, there and back.
   subroutine print_array(m)
@@ -193,14 +195,11 @@ contains
     type(hpf_gen_block_mapping), intent(in) :: m
     integer(i64), intent(in) :: processor, place, quota
     integer, intent(in) :: list_bytes
-    integer(c_int8_t), parameter :: untouched = 90
     integer(c_int8_t) :: memory(room)
     type(hpf_filled) :: filled
     memory = untouched
     filled = fill_bytes(m, dense, processor, place, quota, memory, list_bytes)
-    print '(2a, 3(i0, 1x), i0, a, i0, a, *(:, 1x, i0))', name, ': ', filled%refusal, filled%entries, &
-      filled%tries, filled%place, ', ', count(memory /= untouched), ' bytes written:', &
-      transfer(memory(2:), [0_i32], int(filled%entries))
+    call print_written(name, filled, memory)
   end subroutine print_fill
 
   subroutine print_fills()

@@ -13,6 +13,7 @@ program grids
   end type example
 
   integer, parameter :: room = 32
+  integer(c_int8_t), parameter :: untouched = 90
   ! x(0:5, 0:3) in blocks of 2 and of 1 on 2 x 2 processors.
   type(hpf_dimension), parameter :: six = hpf_dimension(cells=6, processors=2, block=2, size=6)
   type(hpf_mapping), parameter :: four = hpf_mapping(cells=4, processors=2, block=1, stride=1, offset=0, size=4)
@@ -153,7 +154,6 @@ contains
     type(example), intent(in) :: e
     integer(i64), intent(in) :: processor, place, quota
     integer, intent(in) :: list_bytes
-    integer(c_int8_t), parameter :: untouched = 90
     integer(c_int8_t), target :: memory(room)
     type(c_ptr) :: list
     type(hpf_filled) :: filled
@@ -162,9 +162,7 @@ contains
     if (list_bytes > 0) list = c_loc(memory(2))
     filled = hpf_grid_fill(e%section, processor, place, quota, list, int(list_bytes, c_size_t), &
       e%first, e%second, e%third)
-    print '(2a, 3(i0, 1x), i0, a, i0, a, *(:, 1x, i0))', name, ': ', filled%refusal, filled%entries, &
-      filled%tries, filled%place, ', ', count(memory /= untouched), ' bytes written:', &
-      transfer(memory(2:), [0_i32], int(filled%entries))
+    call print_written(name, filled, memory)
   end subroutine print_fill
 
   subroutine print_fills(e)
@@ -248,6 +246,7 @@ contains
   end subroutine print_rank_one
 
   include 'same.inc'
+  include 'filled.inc'
 
   ! Indices, triplets and lists that are left out, and sizes that do not lie side by side.
   subroutine print_left_out()

@@ -84,9 +84,9 @@ fn compare_sections(
         quota: 20,
     };
     let mut lists = [[0u8; 40]; 2];
-    let answer = section_library::fill(&fill, &mut lists[0]);
+    let answer = section_library::fill(&fill, Some(&mut lists[0]));
     (fill.m, fill.triplet) = (zero_based, zero_based_triplet);
-    let expected = section_library::fill(&fill, &mut lists[1]);
+    let expected = section_library::fill(&fill, Some(&mut lists[1]));
     comparison.same(answer, expected, || format!("{fill:?}, and {m:?}"))?;
     comparison.same(lists[0], lists[1], || {
         format!("list of {fill:?}, and {m:?}")

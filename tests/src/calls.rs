@@ -24,9 +24,16 @@ pub trait Calls: Clone + Debug {
 }
 
 pub trait CallFill: Debug {
-    fn fill(&self, list: &mut [u8]) -> Filled;
+    fn fill_lent(&self, list: Option<&mut [u8]>) -> Filled;
+
+    fn fill(&self, list: &mut [u8]) -> Filled {
+        self.fill_lent(Some(list))
+    }
+
     /// A fill that is lent no list.
-    fn fill_nothing(&self) -> Filled;
+    fn fill_nothing(&self) -> Filled {
+        self.fill_lent(None)
+    }
 }
 
 pub trait CallTransfer: Debug {
@@ -69,12 +76,8 @@ impl Calls for Mapping {
 }
 
 impl CallFill for Fill {
-    fn fill(&self, list: &mut [u8]) -> Filled {
+    fn fill_lent(&self, list: Option<&mut [u8]>) -> Filled {
         section_library::fill(self, list)
-    }
-
-    fn fill_nothing(&self) -> Filled {
-        section_library::fill_nothing(self)
     }
 }
 

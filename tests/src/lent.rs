@@ -14,6 +14,14 @@ impl<T> Lent<T> {
             Lent(list.as_mut_ptr(), list.len())
         }
     }
+
+    /// Null only where no list is lent.
+    pub fn if_any(list: Option<&mut [T]>) -> Lent<T> {
+        match list {
+            Some(list) => Lent(list.as_mut_ptr(), list.len()),
+            None => Lent(ptr::null_mut(), 0),
+        }
+    }
 }
 
 /// The same of a list that is only read.

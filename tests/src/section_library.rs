@@ -2,8 +2,7 @@
 //! and lists of bytes.
 #![allow(unsafe_code)]
 
-use std::ptr;
-
+use crate::lent::Lent;
 use crate::library::Mapping;
 
 /// The three numbers of a section. Nothing says that they are in range.
@@ -162,37 +161,28 @@ pub fn first_place(m: &Mapping, triplet: &Triplet, processor: i64) -> Placed {
     }
 }
 
-pub fn fill(fill: &Fill, list: &mut [u8]) -> Filled {
-    // SAFETY: the list is lent for the call, with its length.
-    unsafe { fill_bytes(fill, list.as_mut_ptr(), list.len()) }
-}
-
-/// A fill that is lent no list.
-pub fn fill_nothing(fill: &Fill) -> Filled {
-    // SAFETY: no byte is lent, so none is touched.
-    unsafe { fill_bytes(fill, ptr::null_mut(), 0) }
-}
-
-/// # Safety
-/// The bytes may be written during the call, and the list may be null only if
-/// there are none. Every number has an answer.
-unsafe fn fill_bytes(fill: &Fill, list: *mut u8, list_bytes: usize) -> Filled {
-    hpf_fill(
-        fill.m.cells,
-        fill.m.processors,
-        fill.m.block,
-        fill.m.stride,
-        fill.m.offset,
-        fill.m.size,
-        fill.m.array_lower,
-        fill.m.template_lower,
-        fill.triplet.lower,
-        fill.triplet.upper,
-        fill.triplet.step,
-        fill.processor,
-        fill.place,
-        fill.quota,
-        list,
-        list_bytes,
-    )
+/// A fill of the list, or one that is lent none.
+pub fn fill(fill: &Fill, list: Option<&mut [u8]>) -> Filled {
+    let list = Lent::if_any(list);
+    // SAFETY: every number has an answer, and the list is lent for the call, with its length.
+    unsafe {
+        hpf_fill(
+            fill.m.cells,
+            fill.m.processors,
+            fill.m.block,
+            fill.m.stride,
+            fill.m.offset,
+            fill.m.size,
+            fill.m.array_lower,
+            fill.m.template_lower,
+            fill.triplet.lower,
+            fill.triplet.upper,
+            fill.triplet.step,
+            fill.processor,
+            fill.place,
+            fill.quota,
+            list.0,
+            list.1,
+        )
+    }
 }

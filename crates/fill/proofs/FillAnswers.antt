@@ -7,7 +7,6 @@ use native.Mathlib.Omega.{arith}
 use borrow.Author.Tests.{eqb-true, eqb-false, ne-eqb}
 use lib.Dec.{eqb}
 use lib.IntN.{ℤ}
-use lib.ListN.{take}
 use mir.Syntax.{w64}
 use mir.Val.{SFits}
 use mir.ValLaws.{toZ-ofZ}
@@ -18,7 +17,7 @@ use Rattle.model.specs.Ownership.{nat}
 use Rattle.model.specs.Questions.{firstNo, ofSection, ofProcessor, ofPlace, ofQuota}
 use Rattle.model.specs.Filling.{Filled, stopped, Outcome, fillBy, answer}
 use Rattle.model.specs.Calls.{FillCall, walkOf, requestOf, fill}
-use Rattle.model.specs.ByteFills.{ByteFill, inWords, storeEntries, bytesAfter}
+use Rattle.model.specs.ByteFills.{ByteFill, inWords, storeEntries, bytesBy, bytesAfter}
 use Rattle.model.proofs.QuestionLaws.{both-yes}
 use Rattle.section.specs.Shares.{shareOf}
 use Rattle.walk.specs.declared.moves.Report.{Report}
@@ -121,12 +120,12 @@ module _ (x : Section) (q t z : ℤ) where
   -- ---- bytes
 
   -- an outcome's addresses stored
-  stored : List ℕ → Outcome → List ℕ
-  stored bs o = storeEntries bs 0 (take (o .filled .entries) (o .filled .list))
+  abbrev stored : List ℕ → Outcome → List ℕ
+  stored bs o = bytesBy bs (o .filled)
 
   pub bytes-done : (s : Start) (bs bs′ : List ℕ) (r : Report) → readyOf x q t z ≡ Go s → FillsBytesFrom s bs bs′ r
       → FilledBytes (bytesCall bs) bs′ (filled.Done r)
-  unfolding inWords bytesAfter stored
+  unfolding inWords bytesAfter
   bytes-done s bs bs′ r e h =
       let p = passed s e in
       let b = h x (accepted (p .none)) (p .share) in
@@ -137,5 +136,5 @@ module _ (x : Section) (q t z : ℤ) where
 
   -- a refused fill stores nothing
   pub bytes-refused : (n : ℕ) (bs : List ℕ) → readyOf x q t z ≡ Refused n → FilledBytes (bytesCall bs) bs (filled.Refused n)
-  unfolding inWords bytesAfter stored storeEntries
+  unfolding inWords bytesAfter storeEntries
   bytes-refused n bs e = let o = stays n e (wordsOf 4 bs) in (ap reportOf o, ap (stored bs) o)

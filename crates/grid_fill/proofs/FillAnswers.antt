@@ -9,7 +9,6 @@ use native.Mathlib.Omega.{arith}
 use borrow.Author.Tests.{ltb-true, eqb-true, eqb-false, ne-eqb}
 use lib.Dec.{ltb, eqb}
 use lib.IntN.{ℤ, pos}
-use lib.ListN.{take}
 use lib.Signed.{leZ}
 use mir.Syntax.{w64}
 use mir.Val.{SFits}
@@ -21,7 +20,7 @@ use Rattle.model.specs.Ownership.{nat}
 use Rattle.model.specs.Sections.{layout}
 use Rattle.model.specs.Questions.{ask, firstNo, ofQuota}
 use Rattle.model.specs.Filling.{Filled, stopped, Outcome, fillBy, answer}
-use Rattle.model.specs.ByteFills.{inWords, storeEntries}
+use Rattle.model.specs.ByteFills.{inWords, storeEntries, bytesBy}
 use Rattle.model.specs.Axes.{Axis, axisOf}
 use Rattle.model.specs.Grids.{GridSection, sectionsOf, gridAxis, ofGridSection, ofGridProcessor}
 use Rattle.model.specs.GridCalls.{ofGridPlace, isPlaceOn, GridFill, ofGridFill, gridRequestOf, gridFill, GridByteFill, gridBytesAfter}
@@ -178,12 +177,12 @@ module _ (x : GridSection) (q t z : ℤ) where
   -- ---- bytes
 
   -- an outcome's addresses stored
-  stored : List ℕ → Outcome → List ℕ
-  stored bs o = storeEntries bs 0 (take (o .filled .entries) (o .filled .list))
+  abbrev stored : List ℕ → Outcome → List ℕ
+  stored bs o = bytesBy bs (o .filled)
 
   pub bytes-done : (s : Start) (bs bs′ : List ℕ) (r : Report) → readyOf x q t z ≡ Go s → FillsFrom s bs bs′ r
       → GridFilledBytes (bytesCall bs) bs′ (filled.Done r)
-  unfolding inWords gridBytesAfter stored
+  unfolding inWords gridBytesAfter
   bytes-done s bs bs′ r e h =
       let p = passed s e in
       let b = h x (subst (λ (v : Start). SourceOf (v .shares) (v .elements) (v .rows) x) (sym (p .start)) (sourced (p .none))) in
@@ -194,5 +193,5 @@ module _ (x : GridSection) (q t z : ℤ) where
 
   -- a refused fill stores nothing
   pub bytes-refused : (n : ℕ) (bs : List ℕ) → readyOf x q t z ≡ Refused n → GridFilledBytes (bytesCall bs) bs (filled.Refused n)
-  unfolding inWords gridBytesAfter stored storeEntries
+  unfolding inWords gridBytesAfter storeEntries
   bytes-refused n bs e = let o = stays n e (wordsOf 4 bs) in (ap reportOf o, ap (stored bs) o)

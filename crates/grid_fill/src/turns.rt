@@ -49,14 +49,12 @@ fn turn_after(p: RowPlan, at: Stand, row: Step, plane: Step, r: Report, n: usize
     ensures { λ t. ⌜ t ≡ turnAfter p at (row .next .0) (plane .next .0) r n base ⌝ }
 {
     let place = r.place;
-    let second = at.second;
-    let third = at.third;
     if place.0 < p.first.section.count {
         return Turn {
             stand: Stand {
                 first: place,
-                second: second,
-                third: third,
+                second: at.second,
+                third: at.third,
             },
             whole: Whole {
                 from: n,
@@ -71,7 +69,7 @@ fn turn_after(p: RowPlan, at: Stand, row: Step, plane: Step, r: Report, n: usize
     let next = row.next;
     let up = plane.next;
     Turn {
-        stand: entering(p, next, third, up),
+        stand: entering(p, next, at.third, up),
         whole: Whole {
             from: n,
             entries: if at.first.0 == p.enter.0 {

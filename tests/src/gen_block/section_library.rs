@@ -2,11 +2,9 @@
 //! as safe functions.
 #![allow(unsafe_code)]
 
-use std::ptr;
-
 use crate::calls::CallFill;
 use crate::gen_block::library::GenBlock;
-use crate::lent::Read;
+use crate::lent::{Lent, Read};
 use crate::section_library::{Filled, Placed, Steps, Triplet};
 
 /// All numbers of a fill, and the sizes.
@@ -116,39 +114,30 @@ pub fn first_place(g: &GenBlock, triplet: &Triplet, processor: i64) -> Placed {
 }
 
 impl CallFill for Fill {
-    fn fill(&self, list: &mut [u8]) -> Filled {
-        // SAFETY: the list is lent for the call, with its length.
-        unsafe { fill_bytes(self, list.as_mut_ptr(), list.len()) }
+    fn fill_lent(&self, list: Option<&mut [u8]>) -> Filled {
+        let (m, sizes) = (&self.g.m, Read::of(self.g.sizes.bytes()));
+        let list = Lent::if_any(list);
+        // SAFETY: every number has an answer, and the sizes and the list, with its length, are lent for the call.
+        unsafe {
+            hpf_gen_block_fill(
+                m.cells,
+                m.processors,
+                sizes.0,
+                sizes.1,
+                m.stride,
+                m.offset,
+                m.size,
+                m.array_lower,
+                m.template_lower,
+                self.triplet.lower,
+                self.triplet.upper,
+                self.triplet.step,
+                self.processor,
+                self.place,
+                self.quota,
+                list.0,
+                list.1,
+            )
+        }
     }
-
-    fn fill_nothing(&self) -> Filled {
-        // SAFETY: no byte is lent, so none is touched.
-        unsafe { fill_bytes(self, ptr::null_mut(), 0) }
-    }
-}
-
-/// # Safety
-/// The bytes may be written during the call, and the list may be null only if
-/// there are none. Every number has an answer, and the sizes are lent too.
-unsafe fn fill_bytes(fill: &Fill, list: *mut u8, list_bytes: usize) -> Filled {
-    let (m, sizes) = (&fill.g.m, Read::of(fill.g.sizes.bytes()));
-    hpf_gen_block_fill(
-        m.cells,
-        m.processors,
-        sizes.0,
-        sizes.1,
-        m.stride,
-        m.offset,
-        m.size,
-        m.array_lower,
-        m.template_lower,
-        fill.triplet.lower,
-        fill.triplet.upper,
-        fill.triplet.step,
-        fill.processor,
-        fill.place,
-        fill.quota,
-        list,
-        list_bytes,
-    )
 }

@@ -1,12 +1,10 @@
 //! The library's C functions on grids, as safe functions.
 #![allow(unsafe_code)]
 
-use std::ptr;
-
 use crate::calls::CallFill;
 use crate::gen_block::sizes::Sizes;
 use crate::gen_block::transfer_library::Side;
-use crate::lent::Read;
+use crate::lent::{Lent, Read};
 use crate::library::{Mapping, Owned};
 use crate::section_library::{Filled, Placed, Steps, Triplet};
 
@@ -242,34 +240,25 @@ impl Grid {
 }
 
 impl CallFill for Fill {
-    fn fill(&self, list: &mut [u8]) -> Filled {
-        // SAFETY: the list is lent for the call, with its length.
-        unsafe { fill_bytes(self, list.as_mut_ptr(), list.len()) }
+    fn fill_lent(&self, list: Option<&mut [u8]>) -> Filled {
+        let [b, c, d] = self.grid.sizes();
+        let list = Lent::if_any(list);
+        // SAFETY: every number has an answer, and the sizes and the list, with its length, are lent for the call.
+        unsafe {
+            hpf_grid_fill(
+                self.grid.given_section(),
+                b.0,
+                b.1,
+                c.0,
+                c.1,
+                d.0,
+                d.1,
+                self.processor,
+                self.place,
+                self.quota,
+                list.0,
+                list.1,
+            )
+        }
     }
-
-    fn fill_nothing(&self) -> Filled {
-        // SAFETY: no byte is lent, so none is touched.
-        unsafe { fill_bytes(self, ptr::null_mut(), 0) }
-    }
-}
-
-/// # Safety
-/// The bytes may be written during the call, and the list may be null only if
-/// there are none. Every number has an answer, and the sizes are lent too.
-unsafe fn fill_bytes(fill: &Fill, list: *mut u8, list_bytes: usize) -> Filled {
-    let [b, c, d] = fill.grid.sizes();
-    hpf_grid_fill(
-        fill.grid.given_section(),
-        b.0,
-        b.1,
-        c.0,
-        c.1,
-        d.0,
-        d.1,
-        fill.processor,
-        fill.place,
-        fill.quota,
-        list,
-        list_bytes,
-    )
 }

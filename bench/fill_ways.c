@@ -8,7 +8,7 @@
 static address_table addresses;
 static move_table moves;
 static pattern_table pattern;
-static uint32_t list[LONG], peer_list[LONG];
+static uint32_t list[VERY_LONG], peer_list[VERY_LONG];
 static volatile int64_t sink;
 
 static int64_t place_of_call(const job *j, int64_t call)
@@ -20,6 +20,19 @@ void call_fill(const void *context, int64_t call)
 {
     const job *j = context;
     sink = fill(&j->in, place_of_call(j, call), list, j->entries).place;
+}
+
+void call_fills(const void *context, int64_t call)
+{
+    const job *j = context;
+    sink = (int64_t)fill_in_turns(&j->in, place_of_call(j, call), list, j->entries, j->entries);
+}
+
+void call_memset(const void *context, int64_t call)
+{
+    const job *j = context;
+    memset(list, (int)call, sizeof list[0] * j->entries);
+    sink = list[j->entries - 1];
 }
 
 void call_walk(const void *context, int64_t call)
@@ -77,6 +90,12 @@ void build_all(const job *j)
 {
     build_for_walk(j, 0);
     build_for_pattern(j, 0);
+}
+
+size_t period_of(const job *j)
+{
+    build_for_pattern(j, 0);
+    return pattern.length;
 }
 
 void check_ways(const job *j, timed_call *const ways[WAYS])

@@ -8,6 +8,11 @@ typedef enum {
     LONG_STRIDE_1,
     LONG_STEP_1,
     LONG_OTHER,
+    REPEATING_ROWS,
+    REPEATING,
+    REPEATING_ITABLE,
+    LONG_ITABLE,
+    VERY_LONG_FILLS,
     SHORT_FILLS,
     GOING_BACK,
     CHECKPOINT_LOOP,
@@ -22,7 +27,7 @@ typedef enum {
     GOALS
 } goal;
 
-/* Holds a figure against a goal. */
+/* Holds a figure against a goal; numbers of the input that are 0 are not named. */
 void hold_against(goal g, double figure, const input *in);
 
 /* Prints the goals that something was held against. */

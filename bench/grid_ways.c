@@ -80,7 +80,7 @@ static void call_rank_1(const void *context, int64_t call)
 {
     const job *j = &((const grid_job *)context)->rank_1;
     (void)call;
-    sink = fill(&j->in, j->places[0], list, j->entries).entries;
+    sink = (int64_t)fill_in_turns(&j->in, j->places[0], list, j->entries, NOT_COPIED);
 }
 
 static void fill_one(const void *context, int64_t call)

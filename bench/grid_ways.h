@@ -6,9 +6,12 @@
 
 enum { LONG_ROW = 64, CHUNK = 4096 };
 
+/* entries of the longest list that a fill of rank 1 does not copy by its periods */
+enum { NOT_COPIED = 999 };
+
 /*
  * A processor's whole list by one fill, and by fills of a chunk each; by the nested loops in vectors, one address to a
- * turn, and with their set-up; as many addresses by the fill of rank 1; and a fill of one entry.
+ * turn, and with their set-up; as many addresses by fills of rank 1; and a fill of one entry.
  */
 enum { GRID_FILL, GRID_CHUNKS, GRID_LOOPS, GRID_TURNS, GRID_SET_UP, GRID_RANK_1, GRID_ONE, GRID_WAYS };
 

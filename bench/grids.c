@@ -158,8 +158,9 @@ void print_grids(int each_input)
            "fill of one entry, and ns per address of a processor's whole list: by one fill; by fills of %d entries;\n"
            "by one fill, less a fill of 1 (rest); by nested loops over tables that stand, in vectors and one address\n"
            "to a turn; by nested loops in vectors, with the tables' set-up; and, for rows of %d entries or more, by a\n"
-           "fill of rank 1, of the first dimension alone, so much longer that it lists as many.\n",
-           CHUNK, LONG_ROW);
+           "fills of rank 1, of the first dimension alone, so much longer that they list as many, in lists of %d\n"
+           "entries, which are not copied by their periods.\n",
+           CHUNK, LONG_ROW, NOT_COPIED);
     print_lengths(LONG_ROW, LONGEST_TABLE, each_input);
     print_lengths(SHORT_ROW, LONG_ROW - 1, each_input);
     print_lengths(1, SHORT_ROW - 1, each_input);

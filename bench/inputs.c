@@ -12,7 +12,7 @@ const machine machines[MACHINES] = {
 const machine few_machines[FEW_MACHINES] = {{32, 2}, {32, 16}, {32, 128}, {32, 1024}, {1024, 65536}};
 const int64_t strides[STRIDES] = {1, 3, 5, 64};
 
-static uint32_t list[LONG];
+static uint32_t list[VERY_LONG];
 
 int64_t step_of(machine m, int i)
 {
@@ -46,11 +46,21 @@ void stop_different(const char *way, const input *in)
     exit(1);
 }
 
-job whole_list(input in)
+static job list_up_to(input in, size_t most)
 {
     job j = {in, {first_place(&in)}, 1, 0};
-    j.entries = (size_t)fill(&in, j.places[0], list, LONG).entries;
+    j.entries = fill_in_turns(&in, j.places[0], list, most, most);
     return j;
+}
+
+job whole_list(input in)
+{
+    return list_up_to(in, LONG);
+}
+
+job very_long_list(input in)
+{
+    return list_up_to(in, VERY_LONG);
 }
 
 job short_lists(const job *whole, size_t entries)

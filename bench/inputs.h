@@ -5,7 +5,7 @@
 #include "library.h"
 
 enum { MACHINES = 11, FEW_MACHINES = 5, STRIDES = 4, STEPS = 18 };
-enum { LONG = 20000, PLACES = 64 };
+enum { LONG = 20000, VERY_LONG = 1000000, PLACES = 64 };
 
 typedef struct {
     int64_t processors, block;
@@ -36,8 +36,9 @@ int64_t largest_size(int64_t stride);
 /* Says that a way does not answer what the library does, and ends the program. */
 void stop_different(const char *way, const input *in);
 
-/* A job of the whole list, as far as it is long. */
+/* A job of the whole list, as far as it is long, or very long. */
 job whole_list(input in);
+job very_long_list(input in);
 
 /* A job of so many entries, from the list's first places that have as many. */
 job short_lists(const job *whole, size_t entries);

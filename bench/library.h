@@ -42,11 +42,34 @@ static inline int64_t first_place(const input *in)
                            in->step, in->processor).place;
 }
 
+static inline hpf_filled fill_within(const input *in, int64_t place, int64_t quota, uint32_t *list, size_t entries)
+{
+    return hpf_fill(in->cells, in->processors, in->block, in->stride, 0, in->size, 0, 0, in->lower, in->upper, in->step,
+                    in->processor, place, quota, (uint8_t *)list, 4 * entries);
+}
+
 /* a fill of so many entries, with a quota that is enough */
 static inline hpf_filled fill(const input *in, int64_t place, uint32_t *list, size_t entries)
 {
-    return hpf_fill(in->cells, in->processors, in->block, in->stride, 0, in->size, 0, 0, in->lower, in->upper, in->step,
-                    in->processor, place, 3 * (int64_t)entries, (uint8_t *)list, 4 * entries);
+    return fill_within(in, place, 3 * (int64_t)entries, list, entries);
+}
+
+/*
+ * as many entries, by fills of the largest quota and of so many entries at most, each from where the one before it
+ * came to; how many there are
+ */
+static inline size_t fill_in_turns(const input *in, int64_t place, uint32_t *list, size_t entries, size_t most)
+{
+    size_t listed = 0;
+    while (listed < entries) {
+        size_t left = entries - listed;
+        hpf_filled f = fill_within(in, place, HPF_LARGEST_QUOTA, list + listed, left < most ? left : most);
+        if (f.entries == 0)
+            break;
+        listed += (size_t)f.entries;
+        place = f.place;
+    }
+    return listed;
 }
 
 /* the whole array's words, from storage to index order and back */

@@ -1,7 +1,7 @@
 /*
- * Prints all tables in Markdown; with the argument `each` every long fill, every loop beside a checkpoint and every
- * fill of a grid too, on standard error. With `checkpoints`, `gen_block` or `grids` it prints the tables and the goals
- * of these only.
+ * Prints all tables in Markdown; with the argument `each` every long and very long fill, every loop beside a checkpoint
+ * and every fill of a grid too, on standard error. With `checkpoints`, `gen_block` or `grids` it prints the tables and
+ * the goals of these only.
  */
 #include <string.h>
 
@@ -23,6 +23,8 @@ int main(int argc, char **argv)
     int grids = asked_for("grids", argc, argv), all = !checkpoints && !gen_block && !grids;
     if (all) {
         print_long_fills(each_input);
+        print_very_long_fills(each_input);
+        print_large_strides();
         print_short_fills();
         print_elements();
         print_sections();

@@ -10,8 +10,7 @@ static const size_t lengths[LENGTHS] = {1, 3, 10};
 
 static void time_short(const job *j, double times[WAYS])
 {
-    timed_call *by_pattern = j->in.stride == 1 ? NULL : build_and_pattern;
-    timed_call *const ways[WAYS] = {call_fill, build_and_walk, by_pattern, build_and_owners};
+    timed_call *const ways[WAYS] = {call_fill, build_and_walk, build_and_pattern, build_and_owners};
     check_ways(j, ways);
     time_ways(j, ways, WAYS, times);
 }

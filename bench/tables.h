@@ -2,8 +2,10 @@
 #ifndef BENCH_TABLES_H
 #define BENCH_TABLES_H
 
-/* long_fills.c, short_fills.c */
+/* long_fills.c, very_long_fills.c, large_strides.c, short_fills.c */
 void print_long_fills(int each_input);
+void print_very_long_fills(int each_input);
+void print_large_strides(void);
 void print_short_fills(void);
 
 /* elements.c: ownership and going back; sections.c: first place and steps */

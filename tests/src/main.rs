@@ -63,7 +63,7 @@ use comparison::{Comparison, Difference};
 /// Compares one kind of calls, and says in words which.
 type Group = fn(&mut Comparison) -> Result<String, Difference>;
 
-const CALLS: [Group; 38] = [
+const CALLS: [Group; 40] = [
     checks_by_hand::compare_limits,
     checks_by_hand::compare_bounds,
     small_mappings::compare_countings,
@@ -89,6 +89,8 @@ const CALLS: [Group; 38] = [
     extreme_sections::compare_machines,
     random_sections::compare_short_chains,
     random_sections::compare_long_chains,
+    random_sections::compare_repeating_chains,
+    random_sections::compare_strided_chains,
     random_sections::compare_sections,
     small_transfers::compare_assignments,
     special_transfers::compare_combinations,

@@ -6,6 +6,7 @@ use crate::enumeration::enumerate;
 use crate::fill_chains::Chains;
 use crate::generator::Generator;
 use crate::library::Mapping;
+use crate::questions::LARGEST_STRIDE;
 use crate::random_bounds::with_random_bounds;
 use crate::random_mappings::random_mapping;
 use crate::section_enumeration::Section;
@@ -19,6 +20,7 @@ struct Kind {
     chains: u32,
     longest_list: u64,
     largest_block: u64,
+    largest_stride: u64,
     largest_size: u64,
 }
 
@@ -26,12 +28,30 @@ const SHORT: Kind = Kind {
     chains: 300_000,
     longest_list: 40,
     largest_block: 12,
+    largest_stride: 20,
     largest_size: 800,
 };
 const LONG: Kind = Kind {
     chains: 6_000,
     longest_list: 4_000,
     largest_block: 700,
+    largest_stride: 20,
+    largest_size: 20_000,
+};
+/// Lists of many periods.
+const REPEATING: Kind = Kind {
+    chains: 2_000,
+    longest_list: 12_000,
+    largest_block: 40,
+    largest_stride: 20,
+    largest_size: 100_000,
+};
+/// Moves of many kinds.
+const STRIDED: Kind = Kind {
+    chains: 2_000,
+    longest_list: 4_000,
+    largest_block: 4_000,
+    largest_stride: LARGEST_STRIDE as u64,
     largest_size: 20_000,
 };
 
@@ -48,15 +68,24 @@ pub fn compare_long_chains(comparison: &mut Comparison) -> Result<String, Differ
     compare_chains(Chains::new(comparison, 4, LONG.longest_list), &LONG)
 }
 
+pub fn compare_repeating_chains(comparison: &mut Comparison) -> Result<String, Difference> {
+    compare_chains(Chains::new(comparison, 24, REPEATING.longest_list), &REPEATING)
+}
+
+pub fn compare_strided_chains(comparison: &mut Comparison) -> Result<String, Difference> {
+    compare_chains(Chains::new(comparison, 25, STRIDED.longest_list), &STRIDED)
+}
+
 fn compare_chains(mut chains: Chains, kind: &Kind) -> Result<String, Difference> {
     for _ in 0..kind.chains {
         let m = random_mapping_of(&mut chains.generator, kind);
         let triplet = random_triplet(&mut chains.generator, &m);
         compare_whole_list(&mut chains, &m, triplet)?;
     }
-    let (number, longest, words) = (kind.chains, kind.longest_list, chains.words::<Fill>());
+    let (number, longest, block) = (kind.chains, kind.longest_list, kind.largest_block);
+    let words = chains.words::<Fill>();
     Ok(format!(
-        "{number} chains with lists of up to {longest} entries, {words}"
+        "{number} chains with lists of up to {longest} entries and blocks of up to {block} cells, {words}"
     ))
 }
 
@@ -75,8 +104,8 @@ fn random_mapping_of(generator: &mut Generator, kind: &Kind) -> Mapping {
     let block = generator.within(1, kind.largest_block);
     let stride = match generator.below(3) {
         0 => 1,
-        1 => generator.within(1, 20),
-        _ => block * generator.within(1, 3),
+        1 => generator.within(1, kind.largest_stride),
+        _ => (block * generator.within(1, 3)).min(LARGEST_STRIDE as u64),
     };
     let first_cell = generator.below(50);
     let size = generator.up_to(kind.largest_size);

@@ -1,27 +1,26 @@
 -- How the local address moves from a position of an accepted section to one n positions on, of the same processor: with
--- alignment stride 1, with section stride 1 or -1, over whole periods, and alike from the same column. Assumes nothing.
+-- alignment stride 1, with section stride 1 or -1, and alike from the same column. Assumes nothing.
 use Prim.Native.Nat.{ℕ, _+_, _-_, _*_, _/_, _<_}
 use mathlib.Core.Path.{_≡_, sym, ap, _∙_, subst}
 use mathlib.Core.Bool.{Bool, true, false}
 use mathlib.Core.Logic.{_⊎_, inl, inr, ⊎-elim}
-use native.Mathlib.Nat.{div-add-mod', add-mul-mod-self-right, eq-of-mul-eq-mul-right}
+use native.Mathlib.Nat.{div-add-mod', eq-of-mul-eq-mul-right}
 use native.Mathlib.Omega.{arith}
-use lib.Dec.{eqb}
 use lib.IntN.{natAbs}
 use Rattle.numbers.specs.Search.{tally}
+use Rattle.numbers.proofs.TallyLaws.{tally-gap}
 use Rattle.model.specs.declared.Layout.{Layout}
 use Rattle.model.specs.Mappings.{Section}
-use Rattle.model.specs.Ownership.{owns, held, cellOf, cellOwner, courseCells, courseOf, columnOf, ownerOf}
+use Rattle.model.specs.Ownership.{owns, held, cellOwner, courseCells, courseOf, columnOf, ownerOf}
 use Rattle.model.specs.Sections.{layout, count, index, cell, address}
 use Rattle.model.specs.Steps.{spread, upward}
 use Rattle.model.specs.Questions.{firstNo, ofSection}
 use Rattle.model.proofs.AddressLaws.{of-owns, rank-is}
 use Rattle.model.proofs.AcceptedLaws.{accepted}
 use Rattle.model.proofs.SectionLaws.{Moved, index-moved, cells-moved}
-use Rattle.model.proofs.CellOwners.{course-pos, owner-rest, column-lt, split}
+use Rattle.model.proofs.CellOwners.{course-pos, column-lt, split}
 use Rattle.mapping.proofs.CellLaws.{cells, rank-direct}
 use Rattle.fill.specs.SectionMoves.{cyclicOwns, cyclicAddress, onWay, columnAt}
-use Rattle.fill.proofs.TallyLaws.{tally-gap, tally-period}
 use Rattle.fill.proofs.ColumnClasses.{classes-alike}
 
 -- ---- cells
@@ -37,12 +36,6 @@ module _ (l : Layout) (p-pos : 0 < l .processors) (k-pos : 0 < l .block) where
       let s = ap (λ (n : ℕ). n * l .block) o in
       eq-of-mul-eq-mul-right (courseCells l) (course-pos l p-pos k-pos) (c′ / courseCells l) (c / courseCells l + d)
       (omega (arith, div-add-mod' c (courseCells l), div-add-mod' c′ (courseCells l)))
-
-  -- whole courses do not change the owner
-  owner-again : (c d : ℕ) → cellOwner l (c + d * courseCells l) ≡ cellOwner l c
-  owner-again c d =
-      owner-rest l p-pos k-pos (c + d * courseCells l) ∙ ap (λ (z : ℕ). z / l .block) (add-mul-mod-self-right c d (courseCells l))
-      ∙ sym (owner-rest l p-pos k-pos c)
 
 -- ---- an accepted section
 module _ (x : Section) (ok : firstNo (ofSection x) ≡ 0) (q : ℕ) where
@@ -68,15 +61,6 @@ module _ (x : Section) (ok : firstNo (ofSection x) ≡ 0) (q : ℕ) where
   moved-address : (t u d : ℕ) → cyclicOwns x q t ≡ true → cyclicOwns x q u ≡ true
       → Moved (upward x) (tally test (index x t)) (tally test (index x u)) d → Moved (upward x) (cyclicAddress x t) (cyclicAddress x u) d
   moved-address t u d o o′ h = rw (address-is t o, address-is u o′) h
-
-  -- a whole number of courses is a period of the test
-  again : (n c : ℕ) → n * spread x ≡ c * courseCells (layout x) → (j : ℕ) → test (n * natAbs (x .triplet .stride) + j) ≡ test j
-  unfolding owns ownerOf cellOf spread
-  again n c e j =
-      let z : layout x .stride * (n * natAbs (x .triplet .stride) + j) + layout x .offset ≡ layout x .stride * j + layout x .offset + c * courseCells (layout x) =
-      omega (arith, e) in
-      ap (λ (y : ℕ). eqb (cellOwner (layout x) y) q) z
-      ∙ ap (λ (y : ℕ). eqb y q) (owner-again (layout x) p-pos k-pos (layout x .stride * j + layout x .offset) c)
 
   -- ---- alignment stride 1
   direct : layout x .stride ≡ 1 → (t : ℕ) → cyclicOwns x q t ≡ true
@@ -125,18 +109,6 @@ module _ (x : Section) (ok : firstNo (ofSection x) ≡ 0) (q : ℕ) where
           ∙ tally-gap test (index x (t + n)) n some o′
           (λ j h k. let z : index x (t + n) + j ≡ index x (t + (n - j)) = omega (arith, f (n - j) (omega arith)) in
           ap test z ∙ none (n - j) (omega arith) (omega arith))
-
-  -- ---- n positions that are whole courses: the address moves by the processor's elements in one period
-  pub periods-move : (t n c : ℕ) → t + n < count x → cyclicOwns x q t ≡ true → cyclicOwns x q (t + n) ≡ true → n * spread x ≡ c * courseCells (layout x)
-      → Moved (upward x) (cyclicAddress x t) (cyclicAddress x (t + n)) (held (ownerOf (layout x)) (n * natAbs (x .triplet .stride)) q)
-  unfolding held
-  periods-move t n c l o o′ e =
-      moved-address t (t + n) _ o o′ (go (upward x) (index x t) (index x (t + n)) (index-moved x ok t n l))
-    where
-      go : (up : Bool) (i i′ : ℕ) → Moved up i i′ (n * natAbs (x .triplet .stride))
-          → Moved up (tally test i) (tally test i′) (tally test (n * natAbs (x .triplet .stride)))
-      go true i i′ h = ap (tally test) h ∙ tally-period test i (n * natAbs (x .triplet .stride)) (again n c e)
-      go false i i′ h = ap (tally test) h ∙ tally-period test i′ (n * natAbs (x .triplet .stride)) (again n c e)
 
   -- ---- any strides: from columns that lie whole alignment strides apart, by n positions that go on alike in columns
   module _ (t t′ n j : ℕ) (l : t + n < count x) (l′ : t′ + n < count x) (o : cyclicOwns x q t ≡ true) (o′ : cyclicOwns x q t′ ≡ true)

@@ -8,11 +8,11 @@ use native.Mathlib.Nat.{div-add-mod', add-mod, mod-eq-of-lt, mul-add-mod-self-ri
 use native.Mathlib.Omega.{arith}
 use lib.Dec.{eqb}
 use Rattle.numbers.specs.Search.{tally}
+use Rattle.numbers.proofs.TallyLaws.{tally-run, tally-window}
 use Rattle.model.specs.declared.Layout.{Layout}
 use Rattle.model.specs.Ownership.{owns, cellOf, cellOwner, courseCells, columnOf, ownerOf}
 use Rattle.model.proofs.AddressLaws.{owns-of, of-owns}
 use Rattle.model.proofs.CellOwners.{owner-rest, column-lt, split}
-use Rattle.fill.proofs.TallyLaws.{tally-run, tally-window}
 
 module _ (l : Layout) (p-pos : 0 < l .processors) (k-pos : 0 < l .block) where
   -- cells with the same rest are followed alike

@@ -21,13 +21,14 @@ use Rattle.model.proofs.SectionLaws.{Moved, spread-pos, cells-moved}
 use Rattle.model.proofs.Rests.{le-or-lt}
 use Rattle.model.proofs.WalkLaws.{course}
 use Rattle.model.proofs.WalkTheorem.{going-nearest}
+use Rattle.model.proofs.PeriodLaws.{address-moved}
 use Rattle.model.proofs.ByteFillsHold.{rank-low}
 use Rattle.walk.specs.Moving.{moveFrom}
 use Rattle.fill.specs.SectionMoves.{cyclicOwns, cyclicAddress, blockWalk, columnAt, onward, movesOf, lineFar, lineMoves}
 use Rattle.fill.specs.Starting.{Driven}
 use Rattle.fill.proofs.ShapeLaws.{LawOf, steps-law, Suited}
-use Rattle.fill.proofs.PaceLaws.{any-suits, shape-at, none-next, paces, stands-in}
-use Rattle.fill.proofs.AddressMoves.{line-moves, ones-move, periods-move}
+use Rattle.fill.proofs.PaceLaws.{any-suits, shape-at, none-next, paces, own-paces, stands-in}
+use Rattle.fill.proofs.AddressMoves.{line-moves, ones-move}
 
 -- ---- adding modulo 2^32
 pub onward-adds : (up : Bool) (d a a′ : ℕ) → a < 4294967296 → a′ < 4294967296 → Moved up a a′ d → a′ ≡ (a + onward up d) % 4294967296
@@ -49,7 +50,7 @@ module _ (x : Section) (ok : firstNo (ofSection x) ≡ 0) (q : ℕ) where
     driven : Driven x q (movesOf x near far both)
     unfolding blockWalk paces
     driven =
-        record { drives = record { paces = paces x ok near far both q; address = λ t h o l. at t h o l }; stands = stands-in x ok near far both q }
+        record { drives = record { paces = paces x ok near far both q; address = λ t h o l. at t h o l }; own = own-paces x ok near far both q; stands = stands-in x ok near far both q }
       where
         at : (t : ℕ) → t < count x → cyclicOwns x q t ≡ true → t + moveFrom (movesOf x near far both) (columnAt x t) .places < count x
             → cyclicAddress x (t + moveFrom (movesOf x near far both) (columnAt x t) .places)
@@ -125,7 +126,7 @@ module _ (x : Section) (ok : firstNo (ofSection x) ≡ 0) (q : ℕ) where
       sym (ap (λ (v : Steps). goOn (upward x) (layout x .block) (columnOf (layout x) (cell x t)) v .cells) e) ∙ g in
       let m : a .cells / spread x ≡ n = div-eq-of-eq-mul-left (spread-pos x ok) cells in
       let y : near ≡ onward (upward x) (held (ownerOf (layout x)) (n * natAbs (x .triplet .stride)) q) = rw (← m) (h (omega arith)) in
-      (_, s .0 ∙ y, periods-move x ok q t n c l o o′ (omega (arith, z, s .1 .0, s .1 .1))))
+      (_, s .0 ∙ y, address-moved x ok n c (omega (arith, z, s .1 .0, s .1 .1)) t l q o))
     where
       Periods : ℕ → ℕ → ℕ → ℕ → Type 0
       Periods b c y₁ y₂ = (b ≡ near) × ((y₁ ≡ 0) × (y₂ ≡ 0))

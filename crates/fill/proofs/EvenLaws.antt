@@ -24,7 +24,7 @@ use Rattle.fill.specs.SectionMoves.{cyclicOwns, cyclicAddress, blockWalk
 use Rattle.fill.specs.Starting.{Evened}
 use Rattle.walk.specs.Learning.{shifted, elementAt, addressAt, Placed, periodOf}
 use Rattle.walk.proofs.MoveLaws.{places-alike, columns-alike}
-use Rattle.fill.proofs.PaceLaws.{column-low, paces, stands-in}
+use Rattle.fill.proofs.PaceLaws.{column-low, paces, own-paces, stands-in}
 use Rattle.fill.proofs.AddressMoves.{strides-alike}
 
 moved-shifted : (up : Bool) (i j n : ℕ) → Moved up i j n → shifted up i n ≡ j
@@ -100,6 +100,7 @@ module _ (x : Section) (ok : firstNo (ofSection x) ≡ 0) where
   even near far both q small =
       record {
         even = record { paces = paces x ok near far both q; address = λ t h o. address-is t h; alike = both-move };
+        own = own-paces x ok near far both q;
         stands = stands-in x ok near far both q;
       }
     where

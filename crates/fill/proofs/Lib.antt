@@ -2,7 +2,6 @@
 -- a section's moves, and that its walk is driven by them
 pub mod ShapeLaws
 pub mod PaceLaws
-pub mod TallyLaws
 pub mod ColumnClasses
 pub mod AddressMoves
 pub mod DriveLaws
@@ -15,4 +14,5 @@ pub mod ReadyLaws
 pub mod PlanLaws
 pub mod StartLaws
 pub mod ChunkLaws
+pub mod LongLaws
 pub mod FillAnswers

@@ -26,6 +26,7 @@ use Rattle.walk.specs.declared.moves.State.{State}
 use Rattle.walk.specs.Moving.{Move, moveFrom, atMost}
 use Rattle.walk.specs.Driving.{Paces, Stands}
 use Rattle.fill.specs.SectionMoves.{cyclicOwns, blockWalk, onWay, columnAt, StandsAt, movesBy, movesOf}
+use Rattle.fill.specs.Starting.{PacesOf}
 use Rattle.walk.proofs.MoveLaws.{takes-first}
 use Rattle.fill.proofs.ShapeLaws.{Shape, Suited, shape}
 
@@ -180,6 +181,10 @@ module _ (x : Section) (ok : firstNo (ofSection x) ≡ 0) where
     same = λ t h o l. same-owner x q t _ o (pace near far both t h .owner l);
     columns = λ t h o l. pace near far both t h .column l;
   }
+
+  pub own-paces : (near far both q : ℕ) → PacesOf x q (movesOf x near far both) (paces near far both q)
+  unfolding paces
+  own-paces near far both q = record { column = λ t. refl; mine = λ t. refl }
 
   -- a state at a place of the processor stands in its walk
   pub stands-in : (near far both q : ℕ) (s : State) → StandsAt x q s → Stands (blockWalk x) (movesOf x near far both) (paces near far both q) s

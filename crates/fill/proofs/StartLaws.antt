@@ -28,7 +28,7 @@ use Rattle.walk.specs.Driving.{FillsBytes}
 use Rattle.walk.specs.Learning.{FillsBytesEven}
 use Rattle.fill.specs.Starting.{Planned, InBlocks, FillsBlocks, elementsIn, taskIn, StateOf}
 
-way-low : (up : Bool) (k q : ℕ) → q < k → onWay up k q < k
+pub way-low : (up : Bool) (k q : ℕ) → q < k → onWay up k q < k
 way-low true k q h = h
 way-low false k q h = omega arith
 

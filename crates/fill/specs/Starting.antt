@@ -19,8 +19,8 @@ use Rattle.fill.specs.declared.plan.Plan.{Plan}
 use Rattle.fill.specs.declared.plan.Plan.the-variants.{Constant, Learnt}
 use Rattle.walk.specs.Moving.{Small, Still}
 use Rattle.walk.specs.declared.moves.Report.{Report}
-use Rattle.walk.specs.Driving.{Drives, Stands, ByteFilled}
-use Rattle.fill.specs.SectionMoves.{blockWalk, StandsAt, elementsOf}
+use Rattle.walk.specs.Driving.{Paces, Drives, Stands, ByteFilled}
+use Rattle.fill.specs.SectionMoves.{blockWalk, cyclicOwns, columnAt, StandsAt, elementsOf}
 use Rattle.walk.specs.Learning.{Even}
 use Rattle.fill.specs.Ready.{Started}
 
@@ -30,14 +30,21 @@ pub record Taken (w : Strided) : Type 0 where
   pub accepted : firstNo (ofSection source) ≡ 0
   pub same : w ≡ stridedOf source
 
+-- the paces are those of processor q: the columns and the owner of its positions
+pub record PacesOf (x : Section) (q : ℕ) (m : Moves) (p : Paces (blockWalk x) m) : Type 0 where
+  pub column : (t : ℕ) → p .column t ≡ columnAt x t
+  pub mine : (t : ℕ) → p .mine t ≡ cyclicOwns x q t
+
 -- the moves drive the section's walk, in which a state at a place of processor q stands
 pub record Driven (x : Section) (q : ℕ) (m : Moves) : Type 0 where
   pub drives : Drives (blockWalk x) m
+  pub own : PacesOf x q m (drives .paces)
   pub stands : (s : State) → StandsAt x q s → Stands (blockWalk x) m (drives .paces) s
 
 -- moves along the section's walk can be learnt, and a state at a place of processor q stands in it
 pub record Evened (x : Section) (q : ℕ) (m : Moves) : Type 0 where
   pub even : Even (blockWalk x) m (elementsOf x)
+  pub own : PacesOf x q m (even .paces)
   pub stands : (s : State) → StandsAt x q s → Stands (blockWalk x) m (even .paces) s
 
 -- the plan's moves are within the limits, and go along the section's walk

@@ -1,7 +1,7 @@
 // Fills of a lent list with a processor's addresses in a section. ready.rt puts the questions. In
 // blocks plan.rt finds the moves that drive the section's walk, and start.rt hands them to the loops
-// of the crate walk, which fill bytes; runs.rt fills along a run. ways.rt has either, found once for
-// many fills. words.rt makes a fill of 32-bit words of fills of bytes.
+// of the crate walk, which fill bytes; long.rt fills long lists by their periods, and runs.rt along a
+// run. ways.rt has either, found once for many fills. words.rt makes a fill of 32-bit words of fills of bytes.
 ghost use mathlib.Core.Path.{_≡_};
 ghost use Rattle.model.specs.Mappings.{sectionWith};
 ghost use Rattle.model.specs.Calls as calls;
@@ -13,6 +13,7 @@ use runs::fill_bytes_from;
 use walk::moves::Report;
 use words::fill_from;
 
+mod long;
 pub mod plan;
 pub mod ready;
 mod runs;

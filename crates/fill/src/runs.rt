@@ -1,8 +1,8 @@
 // Fills along a run of positions: the next address is one addition on, and how many entries are
 // written is known before the first.
+use crate::long::fill_list;
 use crate::plan::onward_by;
 use crate::ready::Start;
-use crate::start::fill_blocks;
 use model::Position;
 use section::positions::index_at;
 use section::shares::Extent;
@@ -91,7 +91,7 @@ pub fn fill_bytes_from(s: Start, list: &mut [u8]) -> Report
 {
     let e = s.extent;
     match e {
-        Extent::Blocks => fill_blocks(s, list),
+        Extent::Blocks => fill_list(s, list),
         Extent::Run(r) => fill_run(s, r, list),
     }
 }

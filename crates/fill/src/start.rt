@@ -21,7 +21,7 @@ ghost use Rattle.fill.specs.SectionMoves.{onWay};
 ghost use Rattle.fill.specs.Starting.{taskIn, Planned, InBlocks, StateOf, FillsBlocks};
 
 // The fill along the section's elements, by moves that are learnt.
-fn task_of(s: Start, m: Moves) -> Task
+pub(crate) fn task_of(s: Start, m: Moves) -> Task
     ensures { λ r. ⌜ r ≡ taskIn s m ⌝ }
 {
     let w = s.section;
@@ -40,7 +40,7 @@ fn task_of(s: Start, m: Moves) -> Task
 }
 
 // The column of a cell, counted in walking direction.
-fn column_of(w: Strided, c: Cell) -> u64
+pub(crate) fn column_of(w: Strided, c: Cell) -> u64
     requires { ⌜ Bounded w ⌝ }
     ensures { λ r. ⌜ r ≡ onWay (w .upward) (w .layout .block) (columnOf (w .layout) (c .0)) ⌝ }
 {
@@ -53,7 +53,7 @@ fn column_of(w: Strided, c: Cell) -> u64
 }
 
 // Where the fill stands before its first turn. At the count there is no element.
-fn state_at(s: Start) -> State
+pub(crate) fn state_at(s: Start) -> State
     requires { ⌜ InBlocks s ⌝ }
     ensures { λ r. ⌜ StateOf s r ⌝ }
 {
@@ -75,7 +75,7 @@ fn state_at(s: Start) -> State
     }
 }
 
-// The fill of a list of bytes.
+// The fill of a short list of bytes.
 pub fn fill_blocks(s: Start, list: &mut [u8]) -> Report
     requires { ⌜ InBlocks s ⌝ }
     ensures { λ r. ⌜ FillsBlocks s (now (list .entry)) (now (list .exit)) r ⌝ }

@@ -1,10 +1,10 @@
 // How a fill goes through a processor's share, found once for many fills of it: by the plan of its
 // blocks, or along its run.
+use crate::long::fill_planned_list;
 use crate::plan::Plan;
 use crate::plan::plan_of;
 use crate::ready::Start;
 use crate::runs::fill_run;
-use crate::start::fill_planned;
 use section::shares::Extent;
 use section::shares::Share;
 use section::shares::Span;
@@ -36,7 +36,7 @@ pub fn fill_bytes_by(s: Start, way: Way, list: &mut [u8]) -> Report
     ensures { λ r. ⌜ FillsBytesFrom s (now (list .entry)) (now (list .exit)) r ⌝ }
 {
     match way {
-        Way::Blocks(plan) => fill_planned(s, plan, list),
+        Way::Blocks(plan) => fill_planned_list(s, plan, list),
         Way::Run(r) => fill_run(s, r, list),
     }
 }

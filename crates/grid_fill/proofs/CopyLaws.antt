@@ -23,7 +23,7 @@ use Rattle.grid_fill.specs.declared.turns.Turn.{Turn}
 use Rattle.grid_fill.specs.Rows.{enteringAt, PlanOf, On, Standing, placeOf, gridWalk, Goes, Stored, Turned}
 use Rattle.grid_fill.specs.Turns.{putRows}
 use Rattle.grid_fill.proofs.BaseFills.{after, after-next}
-use Rattle.grid_fill.proofs.StoreLaws.{Put, put-words, stores-append}
+use Rattle.walk.proofs.StoreLaws.{Put, put-words, stores-append}
 use Rattle.grid_fill.proofs.RowPlaces.{counts, baseOf, after-row, after-stands}
 use Rattle.grid_fill.proofs.RowTurns.{goes-none, goes-both, base-low, row-goes}
 use Rattle.grid_fill.proofs.WholeRows.{part-same, stored-stays, again-on, put-again}

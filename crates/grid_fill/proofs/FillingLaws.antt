@@ -25,7 +25,7 @@ use Rattle.grid_fill.specs.declared.turns.Whole.{Whole}
 use Rattle.grid_fill.specs.declared.turns.Turn.{Turn}
 use Rattle.grid_fill.specs.Rows.{PlanOf, Standing, placeOf, gridWalk, Goes, Known, Turned}
 use Rattle.grid_fill.specs.Turns.{placeIn}
-use Rattle.grid_fill.proofs.StoreLaws.{stores-append}
+use Rattle.walk.proofs.StoreLaws.{stores-append}
 use Rattle.grid_fill.proofs.RowPlaces.{counts}
 use Rattle.grid_fill.proofs.RowTurns.{goes-none, goes-both}
 

@@ -1,6 +1,5 @@
 -- Laws that several proofs of `grid_fill` cite.
 -- entries of a list of bytes, and fills along any walk
-pub mod StoreLaws
 pub mod BaseFills
 -- one dimension, rows, and turns
 pub mod ShareFills

@@ -19,7 +19,7 @@ use Rattle.model.proofs.PairLaws.{pair-lt}
 use Rattle.model.proofs.GridWalks.{element-low}
 use Rattle.grid_fill.specs.declared.rows.RowPlan.{RowPlan}
 use Rattle.grid_fill.specs.Rows.{PlanOf, On, gridWalk, Goes}
-use Rattle.grid_fill.proofs.StoreLaws.{Put}
+use Rattle.walk.proofs.StoreLaws.{Put}
 use Rattle.grid_fill.proofs.RowPlaces.{baseOf, in-row, first-walks}
 
 -- ---- parts of a fill one after another

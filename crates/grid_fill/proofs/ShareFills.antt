@@ -33,7 +33,7 @@ use Rattle.grid_fill.specs.Entries.{higher, AllLow}
 use Rattle.grid_fill.specs.Steps.{fromPlace, Placed}
 use Rattle.grid_fill.specs.Rows.{RowFilled}
 use Rattle.grid_fill.proofs.BaseFills.{onTop, fill-base}
-use Rattle.grid_fill.proofs.StoreLaws.{stores-over}
+use Rattle.walk.proofs.StoreLaws.{stores-over}
 
 -- ---- a share's fills are accepted
 

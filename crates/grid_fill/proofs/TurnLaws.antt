@@ -37,7 +37,7 @@ use Rattle.grid_fill.specs.Steps.{Placed, Stepped}
 use Rattle.grid_fill.specs.Rows.{ShareIn, enteringAt, PlanOf, On, Standing, placeOf, gridWalk, Goes, Known, Turned}
 use Rattle.grid_fill.specs.Turns.{turnAfter, Begun}
 use Rattle.grid_fill.proofs.BaseFills.{onTop, fill-base}
-use Rattle.grid_fill.proofs.StoreLaws.{Put, put-words, stores-part, words-part}
+use Rattle.walk.proofs.StoreLaws.{Put, put-words, stores-part, words-part}
 use Rattle.grid_fill.proofs.ShareFills.{on-top-front}
 use Rattle.grid_fill.proofs.RowPlaces.{counts, first-walks, next-le, next-on, baseOf, after-row, after-stands}
 use Rattle.grid_fill.proofs.RowTurns.{base-low, row-goes}

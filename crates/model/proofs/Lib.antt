@@ -30,6 +30,7 @@ pub mod RunWalks
 pub mod AxisLaws
 pub mod Walking
 pub mod StepSizes
+pub mod PeriodLaws
 -- fills one after another, and demand 3
 pub mod FillCalls
 pub mod Fronts

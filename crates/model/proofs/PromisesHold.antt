@@ -12,6 +12,7 @@ use Rattle.model.proofs.AcceptedLaws.{accepted}
 use Rattle.model.proofs.SectionLaws.{spread-pos}
 use Rattle.model.proofs.StepLaws.{step-cases, determinant, never-both}
 use Rattle.model.proofs.WalkLaws.{course}
+use Rattle.model.proofs.PeriodLaws.{repeating}
 use Rattle.model.proofs.AnswerLaws.{there-and-back, back-and-there}
 use Rattle.model.proofs.ByteFillsHold.{bytes-stay}
 use Rattle.model.proofs.Demand1Holds.{demand1}
@@ -65,6 +66,7 @@ promises = record {
   bounds = shifted;
   without-bounds = as-document-01;
   steps = balanced;
+  repeats = λ x ok k. repeating x ok;
   word-fills = demand3;
   byte-fills = demand3-of-bytes;
   bytes-stay = bytes-stay;

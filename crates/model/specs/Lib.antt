@@ -3,6 +3,7 @@ pub mod Mappings
 pub mod Ownership
 pub mod Sections
 pub mod Steps
+pub mod Periods
 pub mod Filling
 pub mod Questions
 pub mod Sized

@@ -5,12 +5,13 @@ use mathlib.Core.Path.{_≡_}
 use lib.Dec.{T}
 use lib.IntN.{ℤ, pos}
 use lib.ListN.{drop}
-use Rattle.model.specs.Mappings.{Mapping, Section}
+use Rattle.model.specs.Mappings.{cyclic, Mapping, Section}
 use Rattle.model.specs.declared.Steps.{Steps}
 use Rattle.model.specs.declared.Steps.the-variants.{NoStep, OneStep, TwoSteps}
 use Rattle.model.specs.Ownership.{nat}
 use Rattle.model.specs.Sections.{layout, count}
 use Rattle.model.specs.Steps.{spread, stepsOf}
+use Rattle.model.specs.Periods.{Repeating}
 use Rattle.model.specs.Questions.{firstNo, ofSection}
 use Rattle.model.specs.Grids.{Three, Grid, GridSection, ofGridSection}
 use Rattle.model.specs.Calls.{ownership, goingBack}
@@ -59,6 +60,8 @@ pub record Promises : Type 0 where
   pub without-bounds : AsDocument01
   -- the two steps of a section
   pub steps : (x : Section) → Accepts x → Balanced (layout x .block) (spread x) (stepsOf x)
+  -- the walk of a processor through a section of a cyclic template repeats
+  pub repeats : (x : Section) → Accepts x → (k : ℤ) → x .mapping .dealing ≡ cyclic k → (q : ℕ) → Repeating x q
   -- demand 3, of fills into words and into bytes
   pub word-fills : (x : Section) → Accepts x → Demand3 inWordLists x
   pub byte-fills : (x : Section) → Accepts x → Demand3 inByteLists x

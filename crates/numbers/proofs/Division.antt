@@ -7,9 +7,11 @@ use native.Mathlib.Nat.{
   mul-add-mod-self-right,
   mod-eq-of-lt,
   div-add-mod',
+  mod-lt,
   lt-of-mul-lt-mul-right,
   mul-le-mul,
 }
+use native.Mathlib.Decide.{decLt}
 use native.Mathlib.Omega.{arith}
 
 -- x is y times m and less than m more: its quotient by m is y
@@ -34,3 +36,12 @@ lt-of-mul a b c h = lt-of-mul-lt-mul-right c h
 -- a product is no larger than that of bounds of its factors
 pub product-le : (m n : ℕ) {a b : ℕ} → a ≤ m → b ≤ n → a * b ≤ m * n
 product-le m n h l = mul-le-mul h l
+
+-- a quotient is 1 or more where the dividend is no smaller
+pub quotient-pos : (x y : ℕ) → 0 < y → y ≤ x → 0 < x / y
+quotient-pos x y h l = elim (decLt 0 (x / y)) [
+  | yes g ↦ g
+  | no g ↦
+      let z : x / y ≡ 0 = omega arith in
+      absurd (omega (arith, div-add-mod' x y, ap (λ (u : ℕ). u * y) z, mod-lt x h))
+]

@@ -1,6 +1,7 @@
 -- The laws of the definitions of `numbers`, for the proofs of this crate and of those that use it.
 pub mod Division
 pub mod SearchLaws
+pub mod TallyLaws
 pub mod RangeSums
 pub mod GcdLaws
 pub mod SumLaws

@@ -4,11 +4,10 @@ use mathlib.Core.Path.{_≡_, refl, sym, ap, _∙_}
 use mathlib.Core.Bool.{Bool, true, false}
 use mathlib.Core.Logic.{_⊎_, inl, inr}
 use native.Mathlib.Nat.{div-add-mod', mod-lt, mod-le, mul-le-mul-left}
-use native.Mathlib.Decide.{decLt}
 use native.Mathlib.Omega.{arith}
 use lib.Dec.{ltb}
 use borrow.Author.Tests.{lt-ltb, ltb-true, ltb-false}
-use Rattle.numbers.proofs.Division.{div-is, rest-is, lt-of-mul}
+use Rattle.numbers.proofs.Division.{div-is, rest-is, lt-of-mul, quotient-pos}
 use Rattle.model.specs.declared.Layout.{Layout}
 use Rattle.model.specs.Ownership.{cellOf, cellOwner, ownerOf}
 use Rattle.model.specs.Sized.{Sized}
@@ -26,15 +25,6 @@ wrap-rest p x y h = go (ltb (x % p + y % p) p) refl
     go false e =
         let high = ltb-false (x % p + y % p) p e in
         rw e (sym (rest-is p (x / p + y / p + 1) (x % p + y % p - p) (x + y) (omega (arith, div-add-mod' x p, div-add-mod' y p, high)) (omega (arith, mod-lt x h, mod-lt y h))))
-
--- a quotient is 1 or more where the dividend is no smaller
-quotient-pos : (x y : ℕ) → 0 < y → y ≤ x → 0 < x / y
-quotient-pos x y h l = elim (decLt 0 (x / y)) [
-  | yes g ↦ g
-  | no g ↦
-      let z : x / y ≡ 0 = omega arith in
-      absurd (omega (arith, div-add-mod' x y, ap (λ (u : ℕ). u * y) z, mod-lt x h))
-]
 
 -- ---- the pace of a layout
 

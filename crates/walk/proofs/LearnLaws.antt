@@ -62,7 +62,7 @@ lands : (a b : ℕ) → a < 4294967296 → b < 4294967296 → b ≡ (a + (b + (4
 lands a b h l = omega arith
 
 -- two differences that are the same, modulo 2^32
-cross : (a a′ b b′ d : ℕ) → b′ < 4294967296 → a′ + b ≡ b′ + a → a′ ≡ (a + d) % 4294967296 → b′ ≡ (b + d) % 4294967296
+pub cross : (a a′ b b′ d : ℕ) → b′ < 4294967296 → a′ + b ≡ b′ + a → a′ ≡ (a + d) % 4294967296 → b′ ≡ (b + d) % 4294967296
 cross a a′ b b′ d l h e = omega arith
 
 -- ---- entries of a table

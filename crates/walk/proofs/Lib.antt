@@ -10,3 +10,13 @@ pub mod SpreadLaws
 pub mod LearnRuns
 pub mod LearnBytes
 pub mod OneEntry
+-- walks that repeat, and entries stored over others
+pub mod PlaceLaws
+pub mod StepLaws
+pub mod RepeatLaws
+pub mod WholePeriods
+pub mod LevelLaws
+pub mod StoreLaws
+pub mod CopyLaws
+pub mod PartFills
+pub mod PeriodFills

@@ -4,3 +4,5 @@ pub mod Driving
 pub mod Bursts
 pub mod Learning
 pub mod Spreading
+pub mod Repeating
+pub mod Copying

@@ -100,7 +100,8 @@ pub(crate) fn stop_at(count: u64, s: State) -> State
     }
 }
 
-fn least(a: u64, b: u64) -> u64
+// The lesser of two numbers, which is some where both are.
+pub fn least(a: u64, b: u64) -> u64
     ensures { λ r. ⌜ (r ≤ a) × (r ≤ b) × ((0 < a) → (0 < b) → 0 < r) ⌝ }
 {
     if a < b { a } else { b }

@@ -42,6 +42,14 @@ fn with_many_classes(f: Task, start: State, list: &mut [u8]) -> Report
     fill_by_classes(f, start, &mut classes, list)
 }
 
+fn with_all_classes(f: Task, start: State, list: &mut [u8]) -> Report
+    requires { ⌜ Begins f start ⌝ }
+    ensures { λ r. ⌜ FillsBytesEven f start (now (list .entry)) (now (list .exit)) r ⌝ }
+{
+    let mut classes = [0u32; 16384];
+    fill_by_classes(f, start, &mut classes, list)
+}
+
 // The fill by moves that are learnt, of which as much is said as of one by constant moves. What
 // comes after the last entry is not asked for, so one entry asks for no move at all. A short list
 // does not pay for a long table, nor a list much shorter than the block for one by columns.
@@ -64,4 +72,19 @@ pub fn fill_bytes_learning(f: Task, start: State, list: &mut [u8]) -> Report
         return with_many_columns(f, start, list);
     }
     with_many_classes(f, start, list)
+}
+
+// The same of a list that may be long: where there are many classes, a table that has them all pays.
+// It stands beside the other, which it would slow down by the room for that table.
+pub fn fill_long_learning(f: Task, start: State, list: &mut [u8]) -> Report
+    requires { ⌜ Begins f start × Still (f .moves) ⌝ }
+    ensures { λ r. ⌜ FillsBytesEven f start (now (list .entry)) (now (list .exit)) r ⌝ }
+{
+    let m = f.moves;
+    let e = f.elements;
+    let l = e.layout;
+    if 1024 < m.block && 256 < l.stride && 1024 <= list.len() / 4 {
+        return with_all_classes(f, start, list);
+    }
+    fill_bytes_learning(f, start, list)
 }

@@ -7,8 +7,8 @@ use Rattle.fill.proofs.runs.fill_bytes_from.Tie as tie
 enum-told : tie.Need-enum-told
 enum-told c = search needs
 
-fill-blocks-requires : tie.Need-fill-blocks-requires
-fill-blocks-requires c κs =
+fill-list-requires : tie.Need-fill-list-requires
+fill-list-requires c κs =
     let s : tie.Start = c .before .before .before .before in
     let told : tie.After-enum-told = c .before in
     in-blocks (s .args .s) (s .pre) (told .enum-told .given .1)
@@ -24,10 +24,10 @@ same-length c = search needs
 
 returns : tie.Need-returns
 returns c =
-    let f : tie.After-fill-blocks = c .before .before in
+    let f : tie.After-fill-list = c .before .before in
     let told : tie.After-enum-told = f .before .before in
     let s : tie.Start = told .before .before .before in
-    of-blocks (s .args .s) (s .pre) (told .enum-told .given .1) _ _ _ (f .fill-blocks .ensures)
+    of-blocks (s .args .s) (s .pre) (told .enum-told .given .1) _ _ _ (f .fill-list .ensures)
 
 same-length-2 : tie.Need-same-length-2
 same-length-2 c = search needs
@@ -40,7 +40,7 @@ fill-bytes-from-spec =
     tie.close
     (tie.spec
     enum-told
-    fill-blocks-requires
+    fill-list-requires
     enum-known-e
     fill-run-requires
     same-length

@@ -19,8 +19,8 @@ by-plan c = let s : tie.Start = c .before .before .before in subst (λ (z : Way)
 by-run : (c : tie.After-way2) → let s : tie.Start = c .before .before .before in WayOf (shareFrom (s .args .s)) (Run (c .way2 .given .0 .0))
 by-run c = let s : tie.Start = c .before .before .before in subst (λ (z : Way). WayOf (shareFrom (s .args .s)) z) (c .way2 .given .1) (s .pre .1)
 
-fill-planned-requires : tie.Need-fill-planned-requires
-fill-planned-requires c κs =
+fill-planned-list-requires : tie.Need-fill-planned-list-requires
+fill-planned-list-requires c κs =
     let m = c .before .before in
     let s : tie.Start = m .before .before .before in
     (in-blocks (s .args .s) (s .pre .0) (by-plan m .0), by-plan m .1)
@@ -39,10 +39,10 @@ same-length c = search needs
 
 returns : tie.Need-returns
 returns c =
-    let f : tie.After-fill-planned = c .before .before in
+    let f : tie.After-fill-planned-list = c .before .before in
     let m : tie.After-way = f .before .before .before in
     let s : tie.Start = m .before .before .before in
-    of-blocks (s .args .s) (s .pre .0) (by-plan m .0) _ _ _ (f .fill-planned .ensures)
+    of-blocks (s .args .s) (s .pre .0) (by-plan m .0) _ _ _ (f .fill-planned-list .ensures)
 
 same-length-2 : tie.Need-same-length-2
 same-length-2 c = search needs
@@ -55,7 +55,7 @@ fill-bytes-by-spec =
     tie.close
     (tie.spec
     enum-known-way
-    fill-planned-requires
+    fill-planned-list-requires
     enum-known-way-2
     fill-run-requires
     same-length

@@ -5,8 +5,8 @@ use mathlib.Core.Path.{_≡_, refl, sym, ap, _∙_}
 use mathlib.Core.List.{List, [], _∷_, _++_, append-assoc}
 use native.Mathlib.Nat.{add-zero}
 use native.Mathlib.Omega.{arith}
-use lib.ListN.{length, take, drop, getD, set, length-append, length-drop}
-use lib.Seq.{sets, sets-eq, length-take-le, drop-drop, getD-drop, ext-getD, take-at, drop-at}
+use lib.ListN.{length, take, drop, getD, set, length-append, length-drop, take-append-drop}
+use lib.Seq.{sets, sets-eq, length-take-le, drop-drop, drop-append-le, getD-drop, ext-getD, take-at, drop-at}
 use Rattle.numbers.specs.Words.{wordsOf, storeAt}
 use Rattle.numbers.proofs.WordLaws.{words-length, word-at}
 use Rattle.model.specs.ByteFills.{storeEntry, storeEntries}
@@ -94,6 +94,17 @@ stores-part bs n xs h =
     ∙ ap (λ (l : List ℕ). take (4 * n) bs ++ (allBytes xs ++ l)) (drop-drop (4 * (0 + length xs)) (4 * n) bs ∙ ap (λ (k : ℕ). drop k bs) e)
     ∙ sym (append-assoc (take (4 * n) bs) (allBytes xs) (drop (4 * (n + length xs)) bs))
     ∙ sym (stores-whole bs n xs h)
+
+-- into the front
+pub stores-front : (bs : List ℕ) (m : ℕ) (xs : List ℕ) → length xs ≤ m → 4 * m ≤ length bs
+    → storeEntries (take (4 * m) bs) 0 xs ++ drop (4 * m) bs ≡ storeEntries bs 0 xs
+stores-front bs m xs h l =
+    let k : ℕ = 4 * (0 + length xs) in
+    let long : length (take (4 * m) bs) ≡ 4 * m = length-take-le (4 * m) bs l in
+    ap (λ (z : List ℕ). z ++ drop (4 * m) bs) (stores-whole (take (4 * m) bs) 0 xs (omega (arith, long)))
+    ∙ append-assoc (allBytes xs) (drop k (take (4 * m) bs)) (drop (4 * m) bs)
+    ∙ ap (λ (z : List ℕ). allBytes xs ++ z) (sym (drop-append-le k (take (4 * m) bs) (drop (4 * m) bs) (omega (arith, long))) ∙ ap (drop k) (take-append-drop (4 * m) bs))
+    ∙ sym (stores-whole bs 0 xs (omega arith))
 
 -- the words of a part
 pub words-part : (bs : List ℕ) (n : ℕ) → 4 * n ≤ length bs → wordsOf 4 (drop (4 * n) bs) ≡ drop n (wordsOf 4 bs)

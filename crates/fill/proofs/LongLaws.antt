@@ -1,13 +1,11 @@
 -- A long fill in blocks: the walk that its plan goes along, and what its first period, its copies and a fill over them give.
 use Prim.Native.Nat.{ℕ, _+_, _-_, _*_, _/_, _%_, _^_, _≤_, _<_}
-use mathlib.Core.Path.{_≡_, refl, sym, ap, _∙_, subst}
-use mathlib.Core.Bool.{Bool, true}
+use mathlib.Core.Path.{_≡_, sym, ap, _∙_, subst}
+use mathlib.Core.Bool.{true}
 use mathlib.Core.List.{List, _++_}
-use mathlib.Core.Logic.{inl, inr}
 use native.Mathlib.Nat.{mul-le-mul-right, div-mul-le-self, mod-lt}
 use native.Mathlib.Omega.{arith}
 use lib.ListN.{length, getD, take, drop}
-use lib.Seq.{getD-take}
 use Rattle.numbers.specs.Words.{wordsOf}
 use Rattle.numbers.proofs.SearchLaws.{tally-le}
 use Rattle.model.specs.Mappings.{Section}
@@ -19,12 +17,10 @@ use Rattle.model.specs.Filling.{fillBy}
 use Rattle.model.proofs.ByteFillsHold.{rank-low}
 use Rattle.model.proofs.ByteStores.{stores-length}
 use Rattle.section.specs.declared.questions.Strided.{Strided}
-use Rattle.section.specs.Strides.{Bounded, stridedOf, indexAt, cellAt, ownedAt}
+use Rattle.section.specs.Strides.{Bounded, stridedOf, indexAt, ownedAt}
 use Rattle.section.proofs.StridedLaws.{index-inside}
 use Rattle.section.proofs.StridedSections.{address-at, cell-at, owned-at}
-use Rattle.walk.specs.declared.moves.Moves.{Moves}
 use Rattle.walk.specs.declared.moves.Report.{Report}
-use Rattle.walk.specs.declared.learning.Elements.{Elements}
 use Rattle.walk.specs.Moving.{Small}
 use Rattle.walk.specs.Driving.{Paces, ByteFilled}
 use Rattle.walk.specs.Learning.{Placed}
@@ -37,9 +33,9 @@ use Rattle.fill.specs.declared.ready.Start.{Start}
 use Rattle.fill.specs.declared.plan.Plan.{Plan}
 use Rattle.fill.specs.declared.plan.Plan.the-variants.{Constant, Learnt}
 use Rattle.fill.specs.declared.long.Period.{Period}
-use Rattle.fill.specs.SectionMoves.{blockWalk, cyclicOwns, cyclicAddress, onWay, columnAt, elementsOf}
+use Rattle.fill.specs.SectionMoves.{blockWalk, cyclicAddress, onWay, columnAt, elementsOf}
 use Rattle.fill.specs.Starting.{InBlocks, PacesOf, PlannedFor, Planned, FillsBlocks, elementsIn}
-use Rattle.fill.specs.Long.{movesIn, columnIn, Begun, Returned, Ahead, stateAfter, Passed}
+use Rattle.fill.specs.Long.{movesIn, columnIn, Returned, Ahead, stateAfter, Passed}
 use Rattle.fill.proofs.ReadyLaws.{elements-placed}
 use Rattle.fill.proofs.StartLaws.{way-low}
 

@@ -182,7 +182,7 @@ fn fill_long(s: Start, plan: Plan, list: &mut [u8]) -> Report
 }
 
 // A fill is long if its list and the rest of its section both are. A row of a grid is lent a long list, and
-// is short.
+// is short. Which fills are long is left open, since either way gives the same.
 fn is_long(s: Start, room: usize) -> bool
     requires { ⌜ s .place .0 ≤ s .section .count ⌝ }
     ensures { λ b. ⌜ (b ≡ true → s .place .0 < s .section .count) ⌝ }

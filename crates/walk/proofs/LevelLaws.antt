@@ -1,6 +1,6 @@
 -- From two places in one column the address moves alike, by constant moves and by moves that are learnt. Assumes nothing.
 use Prim.Native.Nat.{ℕ, _+_, _%_, _<_}
-use mathlib.Core.Path.{_≡_, refl, sym, ap, _∙_, subst}
+use mathlib.Core.Path.{_≡_, sym, ap}
 use native.Mathlib.Omega.{arith}
 use Rattle.model.specs.Filling.{Walk}
 use Rattle.walk.specs.declared.moves.Moves.{Moves}
@@ -12,8 +12,8 @@ use Rattle.walk.proofs.LearnLaws.{address-fits, cross}
 use Rattle.walk.proofs.RepeatLaws.{reach}
 use Rattle.walk.proofs.WholePeriods.{Level}
 
-sums : (a b c x y A d : ℕ) → a ≡ (x + A) % 4294967296 → b ≡ (a + d) % 4294967296 → c ≡ (x + d) % 4294967296 → b ≡ (c + A) % 4294967296
-sums a b c x y A d e f g = omega arith
+sums : (a b c x A d : ℕ) → a ≡ (x + A) % 4294967296 → b ≡ (a + d) % 4294967296 → c ≡ (x + d) % 4294967296 → b ≡ (c + A) % 4294967296
+sums a b c x A d e f g = omega arith
 
 module _ (w : Walk) (m : Moves) where
   pub drives-level : (d : Drives w m) → Level w m (d .paces)
@@ -21,7 +21,7 @@ module _ (w : Walk) (m : Moves) where
       let same : moveFrom m (d .paces .column y) .places ≡ reach w m (d .paces) x = ap (λ (c : ℕ). moveFrom m c .places) q in
       let add : moveFrom m (d .paces .column y) .add ≡ moveFrom m (d .paces .column x) .add = ap (λ (c : ℕ). moveFrom m c .add) q in
       let there = rw (same, add) at (d .address y l mine′ (rw same far)) in
-      sums (w .address y) _ _ (w .address x) y A (moveFrom m (d .paces .column x) .add) e there (d .address x h mine near)
+      sums (w .address y) _ _ (w .address x) A (moveFrom m (d .paces .column x) .add) e there (d .address x h mine near)
 
   pub even-level : (e : Elements) (d : Even w m e) → Placed e (w .count) → Level w m (d .paces)
   even-level e d p x y A h l mine mine′ q near far z =

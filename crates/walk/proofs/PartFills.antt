@@ -1,14 +1,13 @@
 -- Fills of a list of bytes by parts of it, along any walk: where a fill that wrote so many entries ends, a fill of the front
 -- of a list, and one over it. Assumes nothing.
 use Prim.Native.Nat.{ℕ, _+_, _-_, _*_, _/_, _≤_, _<_}
-use mathlib.Core.Path.{_≡_, refl, sym, ap, _∙_, subst}
-use mathlib.Core.Bool.{Bool, true, _||_, or-true}
-use mathlib.Core.List.{List, [], _++_}
+use mathlib.Core.Path.{_≡_, refl, sym, ap, _∙_}
+use mathlib.Core.Bool.{or-true}
+use mathlib.Core.List.{List, _++_}
 use mathlib.Core.Logic.{_⊎_, inl, inr}
-use native.Mathlib.Nat.{add-zero, zero-add}
 use native.Mathlib.Omega.{arith}
-use lib.Dec.{eqb, ltb}
-use lib.ListN.{length, take, drop, take-append-drop, length-append, drop-of-length-le}
+use lib.Dec.{eqb}
+use lib.ListN.{length, take, drop, drop-of-length-le}
 use lib.Seq.{length-take-le, take-at}
 use borrow.Author.Tests.{eq-eqb, lt-ltb}
 use Rattle.numbers.specs.Words.{wordsOf}
@@ -20,7 +19,7 @@ use Rattle.model.proofs.ByteStores.{stores-length}
 use Rattle.walk.specs.declared.moves.Report.{Report}
 use Rattle.walk.specs.Driving.{ByteFilled}
 use Rattle.walk.proofs.StoreLaws.{stores-append, stores-over, stores-front}
-use Rattle.walk.proofs.PlaceLaws.{placesOn, costsOn, addressesOn, addresses-length, addresses-add, Open, stretch, fill-stretch, Stretched, fill-stretched}
+use Rattle.walk.proofs.PlaceLaws.{placesOn, costsOn, addressesOn, addresses-length, addresses-add, Open, stretch, fill-stretch, fill-stretched}
 
 module _ (w : Walk) (t quota : ℕ) where
   -- why a fill that wrote n entries of so many ends there

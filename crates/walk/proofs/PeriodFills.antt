@@ -1,9 +1,9 @@
 -- A fill of a list of bytes along a walk that repeats: its first period is filled, so many whole ones are passed, steps are
 -- taken from there on, and the entries are copies. Assumes nothing.
 use Prim.Native.Nat.{ℕ, zero, suc, _+_, _-_, _*_, _/_, _%_, _^_, _≤_, _<_}
-use mathlib.Core.Path.{_≡_, refl, sym, ap, _∙_, subst}
-use mathlib.Core.Bool.{Bool, true, cond}
-use mathlib.Core.List.{List, [], _∷_, _++_}
+use mathlib.Core.Path.{_≡_, sym, ap, _∙_, subst}
+use mathlib.Core.Bool.{true}
+use mathlib.Core.List.{List, _++_}
 use mathlib.Core.Logic.{_⊎_, inl, inr}
 use native.Mathlib.Decide.{decLt}
 use native.Mathlib.Nat.{mul-le-mul-right}
@@ -26,11 +26,11 @@ use Rattle.walk.specs.Bursts.{stepsOn}
 use Rattle.walk.specs.Repeating.{StepsUntil}
 use Rattle.walk.specs.Copying.{Extends}
 use Rattle.walk.proofs.MoveLaws.{at-most-is, at-most-le}
-use Rattle.walk.proofs.StoreLaws.{stores-append, Put, put-words}
+use Rattle.walk.proofs.StoreLaws.{stores-append, put-words}
 use Rattle.walk.proofs.PlaceLaws.{placesOn, costsOn, addressesOn, places-add, costs-add, places-suc, costs-rise, addresses-length, addresses-at, Open}
 use Rattle.walk.proofs.RepeatLaws.{Inside, Beside, Along, along, inside-mine}
 use Rattle.walk.proofs.WholePeriods.{Level, along-address, Whole, whole, Stepped, steps-walk}
-use Rattle.walk.proofs.PartFills.{Ends, Reports, ends-at, Part}
+use Rattle.walk.proofs.PartFills.{Ends, ends-at, Part}
 
 module _ (w : Walk) (m : Moves) (p : Paces w m) (low : (u : ℕ) → u < w .count → w .address u < 256 ^ 4) where
   fits : (n t : ℕ) → ((j : ℕ) → j < n → placesOn w j t < w .count) → AllFit (addressesOn w n t)

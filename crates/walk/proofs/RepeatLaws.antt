@@ -1,19 +1,17 @@
 -- A walk repeats: from a column that comes back the same steps are taken again, for the same costs. Assumes nothing.
-use Prim.Native.Nat.{ℕ, zero, suc, _+_, _-_, _*_, _%_, _≤_, _<_}
+use Prim.Native.Nat.{ℕ, zero, suc, _+_, _-_, _≤_, _<_}
 use mathlib.Core.Path.{_≡_, refl, sym, ap, _∙_, subst}
-use mathlib.Core.Bool.{Bool, true, false, cond}
+use mathlib.Core.Bool.{true}
 use mathlib.Core.Logic.{_⊎_, inl, inr}
-use native.Mathlib.Nat.{add-zero, zero-add}
+use native.Mathlib.Nat.{add-zero}
 use native.Mathlib.Decide.{decLt}
 use native.Mathlib.Omega.{arith}
 use borrow.Author.Tests.{lt-ltb, le-ltb}
 use Rattle.model.specs.Filling.{Walk}
 use Rattle.walk.specs.declared.moves.Moves.{Moves}
-use Rattle.walk.specs.declared.moves.State.{State}
 use Rattle.walk.specs.Moving.{moveFrom, atMost}
 use Rattle.walk.specs.Driving.{Paces}
-use Rattle.walk.specs.Bursts.{stepsOn}
-use Rattle.walk.proofs.PlaceLaws.{placesOn, costsOn, places-add, costs-add, places-suc, costs-suc}
+use Rattle.walk.proofs.PlaceLaws.{placesOn, costsOn, places-suc, costs-suc}
 
 -- a place that is not yet the count was not stopped there
 below : (count t : ℕ) → atMost count t < count → t < count

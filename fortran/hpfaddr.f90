@@ -49,10 +49,11 @@
 !
 ! Every call returns, whatever numbers it is given; it keeps no state, and writes only the lists
 ! that it is lent, so any number of threads may call at once, each with its own lists.
-! include/hpfaddr.h says what is guaranteed. This file is compiled after hpfaddr_numbers,
-! hpfaddr_gen_block_numbers, hpfaddr_gen_block, hpfaddr_between, hpfaddr_grid_numbers and hpfaddr_grid.
+! hpfaddr.h says what is guaranteed. files.txt has the files of the module in the order in which they
+! are compiled; this one is the last.
 module hpfaddr
   use, intrinsic :: iso_c_binding, only: c_int32_t, c_int64_t, c_size_t, c_double, c_ptr
+  use hpfaddr_version
   use hpfaddr_numbers
   use hpfaddr_gen_block_numbers
   use hpfaddr_gen_block
@@ -73,6 +74,7 @@ module hpfaddr
   public :: hpf_refused_section, hpf_refused_processor_number, hpf_refused_element
   public :: hpf_refused_place, hpf_refused_quota, hpf_refused_counts, hpf_refused_room, hpf_refused_grid
   public :: hpf_least_quota, hpf_largest_quota
+  public :: hpfaddr_version_major, hpfaddr_version_minor, hpfaddr_version_patch, hpfaddr_version_string
 
   ! The owner and the local address of the element with this declared index.
   interface hpf_ownership

@@ -94,6 +94,8 @@
 #include <stddef.h>
 #include <stdint.h>
 
+#include "hpfaddr_version.h"
+
 #ifdef __cplusplus
 extern "C" {
 #endif

@@ -76,25 +76,25 @@ of-none s a h bs x ok same =
 -- ---- in a run
 
 module _ (s : Start) (span : Span) (i : InRun s span) where
-  pub room : (s .place .0 < span .high) × (span .base ≤ indexAt (s .section) (s .place .0))
+  pub room : (s .place .0 < span .high .0) × (span .base .0 ≤ indexAt (s .section) (s .place .0))
   room =
       let x = i .accepted .source in
       let ok = i .accepted .accepted in
       let same = i .accepted .same in
       let p = placed s span i x ok same in
       let b = based s span i x ok same (s .place .0) (le-refl (s .place .0)) (p .1) in
-      (p .1, subst (λ (w : Strided). span .base ≤ indexAt w (s .place .0)) (sym (ap (λ (h : Share). h .section) same)) b)
+      (p .1, subst (λ (w : Strided). span .base .0 ≤ indexAt w (s .place .0)) (sym (ap (λ (h : Share). h .section) same)) b)
 
   -- it ends in the section
-  pub span-in : span .high ≤ s .section .count
+  pub span-in : span .high .0 ≤ s .section .count
   unfolding stridedOf
   span-in =
       let same = i .accepted .same in
       omega (arith, dealt s span i (i .accepted .source) (i .accepted .accepted) same .inside, ap (λ (h : Share). h .section .count) same)
 
-  pub of-run : (bs : List ℕ) (n first d p : ℕ) → n ≡ entriesIn (span .high) (s .place .0) (s .quota) (length bs / 4)
+  pub of-run : (bs : List ℕ) (n first d p : ℕ) → n ≡ entriesIn (span .high .0) (s .place .0) (s .quota) (length bs / 4)
       → first ≡ offBase (s .section) span (s .place .0) → d ≡ onward (s .section .upward) (s .section .stride)
-      → p ≡ cond (ltb (s .place .0 + n) (span .high)) (s .place .0 + n) (s .section .count)
+      → p ≡ cond (ltb (s .place .0 + n) (span .high .0)) (s .place .0 + n) (s .section .count)
       → FillsBytesFrom s bs (storeEntries bs 0 (addressesFrom n first d)) (record { entries = n; tries = n; place = record { 0 = p } })
   unfolding walkOf stridedOf
   of-run bs n first d p en ef ed ep x ok same =
@@ -104,13 +104,13 @@ module _ (s : Start) (span : Span) (i : InRun s span) where
       let step : d ≡ onward (stridedOf x .upward) (stridedOf x .stride) = ed ∙ ap (λ (v : Strided). onward (v .upward) (v .stride)) w in
       let here : first ≡ address x t =
       ef ∙ ap (λ (v : Strided). offBase v span t) w ∙ sym (address-is s span i x ok same t (le-refl t) l) in
-      let many : n ≡ entriesIn (span .high) t (s .quota) (length (wordsOf 4 bs)) =
-      en ∙ ap (entriesIn (span .high) t (s .quota)) (sym (words-length 4 bs)) in
-      let e = run-fill (walkOf x) t (span .high) _ (runs s span i x ok same) (wordsOf 4 bs) t (s .quota) (le-refl t) l in
+      let many : n ≡ entriesIn (span .high .0) t (s .quota) (length (wordsOf 4 bs)) =
+      en ∙ ap (entriesIn (span .high .0) t (s .quota)) (sym (words-length 4 bs)) in
+      let e = run-fill (walkOf x) t (span .high .0) _ (runs s span i x ok same) (wordsOf 4 bs) t (s .quota) (le-refl t) l in
       record {
         entries = many ∙ sym (e .entries);
         tries = many ∙ sym (e .tries);
         place =
-            ep ∙ (λ j. cond (ltb (t + many j) (span .high)) (t + many j) (w j .count)) ∙ sym (e .place);
+            ep ∙ (λ j. cond (ltb (t + many j) (span .high .0)) (t + many j) (w j .count)) ∙ sym (e .place);
         bytes = ap (storeEntries bs 0) ((λ j. addressesFrom (many j) (here j) (step j)) ∙ sym (e .list) ∙ ap (λ (m : ℕ). take m (fillBy (walkOf x) t (s .quota) (wordsOf 4 bs) .list)) (sym (e .entries)));
       }

@@ -16,7 +16,7 @@ use Rattle.model.specs.Mappings.{Section}
 use Rattle.model.specs.Ownership.{nat}
 use Rattle.model.specs.Questions.{firstNo, ofSection, ofProcessor, ofPlace, ofQuota}
 use Rattle.model.specs.Filling.{Filled, stopped, Outcome, fillBy, answer}
-use Rattle.model.specs.Calls.{FillCall, walkOf, requestOf, fill}
+use Rattle.model.specs.Calls.{FillCall, walkOf, requestOf, fill, ToldApart}
 use Rattle.model.specs.ByteFills.{ByteFill, inWords, storeEntries, bytesBy, bytesAfter}
 use Rattle.model.proofs.QuestionLaws.{both-yes}
 use Rattle.section.specs.Shares.{shareOf}
@@ -26,7 +26,7 @@ use Rattle.fill.specs.declared.ready.Ready.{Ready}
 use Rattle.fill.specs.declared.ready.Ready.the-variants.{Go, Refused}
 use Rattle.fill.specs.declared.Filled.the-variants as filled
 use Rattle.fill.specs.Ready.{startAt, readyOf, shareFrom, Started, Accepted, FillsFrom, FillsBytesFrom}
-use Rattle.fill.specs.Answers.{outcomeAs, reportOf, FilledBytes}
+use Rattle.fill.specs.Answers.{outcomeAs, filledRefusals, reportOf, FilledBytes}
 
 -- an answer about numbers that the machine reads back is one about the numbers
 pub of-parameters : (x : Section) (q t z : ℤ) {r : Ready} → SFits w64 q → SFits w64 t → SFits w64 z
@@ -90,6 +90,9 @@ module _ (x : Section) (q t z : ℤ) where
           let f : no-to ≡ n = let g = rw p at e in cc in
           record { first = f; some = λ g. eqb-false no-to 0 p (f ∙ g) }
 
+  pub told-apart : (n : ℕ) → readyOf x q t z ≡ Refused n → ToldApart (filledRefusals (filled.Refused n))
+  told-apart n e = (omega (arith, refused n e .some), tt)
+
   -- ---- the fill that is asked for, in each case
 
   abbrev outcome : ℕ → Filled → List ℕ → Outcome
@@ -132,9 +135,10 @@ module _ (x : Section) (q t z : ℤ) where
       let o = runs s e (wordsOf 4 bs) in (
         (λ i. record { refusal = 0; entries = b .entries i; tries = b .tries i; place = b .place i }) ∙ ap reportOf o,
         b .bytes ∙ ap (stored bs) o,
+        tt,
       )
 
   -- a refused fill stores nothing
   pub bytes-refused : (n : ℕ) (bs : List ℕ) → readyOf x q t z ≡ Refused n → FilledBytes (bytesCall bs) bs (filled.Refused n)
   unfolding inWords bytesAfter storeEntries
-  bytes-refused n bs e = let o = stays n e (wordsOf 4 bs) in (ap reportOf o, ap (stored bs) o)
+  bytes-refused n bs e = let o = stays n e (wordsOf 4 bs) in (ap reportOf o, ap (stored bs) o, told-apart n e)

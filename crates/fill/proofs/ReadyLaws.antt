@@ -38,7 +38,7 @@ pub element-in : (w : Strided) (t : ℕ) → elementAt (elementsIn w) t ≡ inde
 unfolding elementAt indexAt
 element-in w t = go (w .upward)
   where
-    go : (up : Bool) → shifted up (w .first) (t * w .stride) ≡ moved up (w .first) (t * w .stride)
+    go : (up : Bool) → shifted up (w .first .0) (t * w .stride) ≡ moved up (w .first .0) (t * w .stride)
     go true = refl
     go false = refl
 

@@ -172,13 +172,13 @@ module _ (s : Start) (span : Span) (i : InRun s span) (x : Section) (ok : firstN
   dealt = run-dealt x ok q span extent-is
 
   -- the place lies in the run
-  pub placed : (span .low ≤ s .place .0) × (s .place .0 < span .high)
+  pub placed : (span .low .0 ≤ s .place .0) × (s .place .0 < span .high .0)
   placed =
       let mine : ownedOf (s .section) q (s .extent) (s .place .0) ≡ true = i .accepted .started .owned (i .below) in
-      let b = both-true (leb (span .low) (s .place .0)) (ltb (s .place .0) (span .high)) (subst (λ (e : Extent). ownedOf (s .section) q e (s .place .0) ≡ true) (i .extent) mine) in
-      (leb-true (span .low) (s .place .0) (b .0), ltb-true (s .place .0) (span .high) (b .1))
+      let b = both-true (leb (span .low .0) (s .place .0)) (ltb (s .place .0) (span .high .0)) (subst (λ (e : Extent). ownedOf (s .section) q e (s .place .0) ≡ true) (i .extent) mine) in
+      (leb-true (span .low .0) (s .place .0) (b .0), ltb-true (s .place .0) (span .high .0) (b .1))
 
-  module _ (t : ℕ) (a : s .place .0 ≤ t) (h : t < span .high) where
+  module _ (t : ℕ) (a : s .place .0 ≤ t) (h : t < span .high .0) where
     here : t < count x
     here = omega (arith, dealt .inside)
 
@@ -186,19 +186,19 @@ module _ (s : Start) (span : Span) (i : InRun s span) (x : Section) (ok : firstN
     owned =
         owned-by x ok q t here
         ∙ ap (λ (e : Extent). ownedOf w q e t) extent-is
-        ∙ rw (le-leb (span .low) t (omega (arith, placed .0)), lt-ltb t (span .high) h)
+        ∙ rw (le-leb (span .low .0) t (omega (arith, placed .0)), lt-ltb t (span .high .0) h)
 
     pub address-is : address x t ≡ offBase w span t
     address-is = address-by x ok q t here owned ∙ ap (λ (e : Extent). addressFrom w e t) extent-is
 
-    pub based : span .base ≤ indexAt w t
+    pub based : span .base .0 ≤ indexAt w t
     based = subst (λ (e : Extent). BasedIn w e t) extent-is (based-by x ok q t here owned)
 
     cost-is : cost x t ≡ 1
     unfolding cost
     cost-is = ap (λ (z : Dealing). costDealt z x t) (dealt .dealt)
 
-    next-is : nextPlace x t ≡ cond (ltb (suc t) (span .high)) (suc t) (count x)
+    next-is : nextPlace x t ≡ cond (ltb (suc t) (span .high .0)) (suc t) (count x)
     unfolding stridedOf
     next-is = next-by x ok q t here owned ∙ ap (λ (e : Extent). nextFrom w e t) extent-is
 
@@ -206,7 +206,7 @@ module _ (s : Start) (span : Span) (i : InRun s span) (x : Section) (ok : firstN
   unfolding stridedOf
   low t h = omega (arith, index-inside w (bounded x ok) t h, bounded x ok .sized .size-high)
 
-  pub runs : Runs (walkOf x) (s .place .0) (span .high) (onward (w .upward) (w .stride))
+  pub runs : Runs (walkOf x) (s .place .0) (span .high .0) (onward (w .upward) (w .stride))
   unfolding walkOf stridedOf
   runs = record {
     least = refl;

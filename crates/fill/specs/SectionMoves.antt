@@ -62,7 +62,7 @@ movesOf x near far both = movesBy (layout x .block) (spread x) (cyclicSteps x) n
 
 -- the elements at the section's positions
 abbrev pub elementsOf : Section → Elements
-elementsOf x = record { layout = layout x; first = index x 0; stride = natAbs (x .triplet .stride); upward = upward x }
+elementsOf x = record { layout = layout x; first = record { 0 = index x 0 }; stride = natAbs (x .triplet .stride); upward = upward x }
 
 -- with stride 1 the address moves by k for each course, and by the columns
 abbrev pub lineNear : ℕ → Step → ℕ

@@ -5,7 +5,7 @@
 ghost use mathlib.Core.Path.{_≡_};
 ghost use Rattle.model.specs.Mappings.{sectionWith};
 ghost use Rattle.model.specs.Calls as calls;
-ghost use Rattle.fill.specs.Answers.{outcomeAs, FilledBytes};
+ghost use Rattle.fill.specs.Answers.{outcomeAs, filledRefusals, FilledBytes};
 use model::Section;
 use ready::Ready;
 use ready::ask_fill;
@@ -37,6 +37,7 @@ pub fn fill(
     list: &mut [u32],
 ) -> Filled
     ensures { λ r. ⌜ outcomeAs r (now (list .exit)) ≡ calls.fill (record { section = sectionWith x (now (sizes .entry)); processor = processor; place = place; quota = quota; list = now (list .entry) }) ⌝ }
+    ensures { λ r. ⌜ calls.ToldApart (filledRefusals r) ⌝ }
 {
     match ask_fill(x, sizes, processor, place, quota) {
         Ready::Go(s) => Filled::Done(fill_from(s, list)),

@@ -11,6 +11,7 @@ use crate::start::fill_planned;
 use crate::start::state_at;
 use crate::start::task_of;
 use model::Address;
+use model::LEAST_TRIES;
 use model::Position;
 use numbers::words::word_at;
 use section::positions::address_at;
@@ -83,7 +84,7 @@ fn periods_ahead(s: Start, p: Period, room: usize) -> u64
     ensures { λ r. ⌜ Ahead s p room r ⌝ }
 {
     let by_places = (s.section.count - 1 - s.place.0) / p.places;
-    let by_tries = (s.quota - 3) / p.tries;
+    let by_tries = (s.quota - LEAST_TRIES) / p.tries;
     moves::least(moves::least(by_places, by_tries), (room / p.entries) as u64)
 }
 
@@ -105,11 +106,11 @@ fn pass_periods(s: Start, m: Moves, p: Period, list: &mut [u8]) -> Report
     let last = steps_until(m, w.count, s.quota, from, room - n);
     let entries = n + last.turns;
     copy_periods(list, p.entries, entries, p.add);
-    let place = last.state.place.0;
+    let place = last.state.place;
     Report {
         entries,
         tries: last.state.paid,
-        place: Position(if place < w.count { place } else { w.count }),
+        place: Position(if place.0 < w.count { place.0 } else { w.count }),
     }
 }
 
@@ -127,7 +128,7 @@ fn has_returned(s: Start, column: u64, entries: usize, r: Report) -> bool
     if r.tries == 0 {
         return false;
     }
-    if s.quota - 3 < r.tries {
+    if s.quota - LEAST_TRIES < r.tries {
         return false;
     }
     let w = s.section;
@@ -148,8 +149,8 @@ fn fill_periods(s: Start, plan: Plan, column: u64, e: usize, list: &mut [u8]) ->
         return first;
     }
     if has_returned(s, column, e, first) {
-        let start = word_at(list, 0) as u64;
-        let add = (address_at(w, u).0 + (moves::ADDRESSES - start)) % moves::ADDRESSES;
+        let start = Address(word_at(list, 0) as u64);
+        let add = (address_at(w, u).0 + (moves::ADDRESSES - start.0)) % moves::ADDRESSES;
         let period = Period {
             column,
             entries: e,
@@ -172,7 +173,7 @@ fn fill_long(s: Start, plan: Plan, list: &mut [u8]) -> Report
     let t = s.place;
     let column = column_at(w, t);
     let e = steps_of_period(moves_of(plan), column);
-    if s.quota < 3 * e + 3 {
+    if s.quota < LEAST_TRIES * (e + 1) {
         return fill_part(s, plan, list);
     }
     if list.len() as u64 / 16 < e {

@@ -138,7 +138,7 @@ fn two_plan(w: Strided, r: Step, b: Step) -> Plan
 
 // The plan for processor q's elements of a section. With section stride 1 the next element
 // of the processor has the next address.
-pub fn plan_of(w: Strided, q: u64) -> Plan
+pub(crate) fn plan_of(w: Strided, q: u64) -> Plan
     requires { ⌜ Taken w × (q < w .layout .processors) ⌝ }
     ensures { λ r. ⌜ Planned w q r ⌝ }
 {

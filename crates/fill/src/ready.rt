@@ -3,6 +3,8 @@
 use mapping::questions::natural;
 use mapping::questions::within;
 use model::Dealing;
+use model::LEAST_TRIES;
+use model::MOST_TRIES;
 use model::Position;
 use model::Section;
 use section::questions::Asked;
@@ -45,14 +47,14 @@ fn is_place(s: Share, place: i64) -> bool
         return false;
     }
     let count = s.section.count;
-    let t = natural(place);
-    if t == count {
+    let t = Position(natural(place));
+    if t.0 == count {
         return true;
     }
-    if count < t {
+    if count < t.0 {
         return false;
     }
-    owns_at(s, Position(t))
+    owns_at(s, t)
 }
 
 // Questions 8, 10 and 11, and the fill that passes them.
@@ -70,7 +72,7 @@ fn ready_in(w: Strided, d: Dealing, sizes: &[u8], processor: i64, place: i64, qu
     if !is_place(share, place) {
         return Ready::Refused(10);
     }
-    if !within(3, 1000000, quota) {
+    if !within(LEAST_TRIES as i64, MOST_TRIES as i64, quota) {
         return Ready::Refused(11);
     }
     Ready::Go(Start {

@@ -3,6 +3,8 @@
 use crate::long::fill_list;
 use crate::plan::onward_by;
 use crate::ready::Start;
+use model::Address;
+use model::LEAST_TRIES;
 use model::Position;
 use section::positions::index_at;
 use section::shares::Extent;
@@ -26,22 +28,25 @@ fn least(a: u64, b: u64) -> u64
     b
 }
 
-// How many entries a fill writes from place t of a run: one for each try but 2, as far as the run and
-// the list go.
+// How many entries a fill writes from place t of a run: one for each try while the least of them is left,
+// as far as the run and the list go.
 fn entries_in(r: Span, t: Position, quota: u64, room: usize) -> usize
-    requires { ⌜ (t .0 < r .high) × (3 ≤ quota) ⌝ }
-    ensures { λ n. ⌜ n ≡ entriesIn (r .high) (t .0) quota room ⌝ }
+    requires { ⌜ (t .0 < r .high .0) × (3 ≤ quota) ⌝ }
+    ensures { λ n. ⌜ n ≡ entriesIn (r .high .0) (t .0) quota room ⌝ }
 {
-    least(least(r.high - t.0, quota - 2), room as u64) as usize
+    least(
+        least(r.high.0 - t.0, quota - (LEAST_TRIES - 1)),
+        room as u64,
+    ) as usize
 }
 
 // Addresses stored one after another, each so much on from the one before it.
-fn put_run(list: &mut [u8], n: usize, first: u64, add: u64)
-    requires { ⌜ (n ≤ length (now list) / 4) × (first < 4294967296) × (add < 4294967296) ⌝ }
-    ensures { λ r. ⌜ now (list .exit) ≡ storeEntries (now (list .entry)) 0 (addressesFrom n first add) ⌝ }
+fn put_run(list: &mut [u8], n: usize, first: Address, add: u64)
+    requires { ⌜ (n ≤ length (now list) / 4) × (first .0 < 4294967296) × (add < 4294967296) ⌝ }
+    ensures { λ r. ⌜ now (list .exit) ≡ storeEntries (now (list .entry)) 0 (addressesFrom n (first .0) add) ⌝ }
 {
     let mut i: usize = 0;
-    let mut x = first;
+    let mut x = first.0;
     while i < n {
         put_entry(list, i, x as u32);
         x = (x + add) % moves::ADDRESSES;
@@ -57,13 +62,13 @@ fn fill_along(s: Start, r: Span, list: &mut [u8]) -> Report
     let w = s.section;
     let t = s.place;
     let n = entries_in(r, t, s.quota, list.len() / 4);
-    let first = index_at(w, t).0 - r.base;
+    let first = Address(index_at(w, t).0 - r.base.0);
     put_run(list, n, first, onward_by(w.upward, w.stride));
-    let on = t.0 + n as u64;
+    let on = Position(t.0 + n as u64);
     Report {
         entries: n,
         tries: n as u64,
-        place: Position(if on < r.high { on } else { w.count }),
+        place: Position(if on.0 < r.high.0 { on.0 } else { w.count }),
     }
 }
 

@@ -26,10 +26,11 @@ pub(crate) fn task_of(s: Start, m: Moves) -> Task
 {
     let w = s.section;
     let l = w.layout;
+    let first = w.first;
     Task {
         elements: Elements {
             layout: l,
-            first: w.first,
+            first,
             stride: w.stride,
             upward: w.upward,
         },

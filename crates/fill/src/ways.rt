@@ -18,6 +18,8 @@ pub enum Way {
     Run(Span),
 }
 
+// Which of the plans that are right for a share's blocks it is stays open: only a fill by this way looks
+// at it, and any of them gives the same list.
 pub fn way_of(s: Share) -> Way
     requires { ⌜ section.Accepted s ⌝ }
     ensures { λ r. ⌜ WayOf s r ⌝ }

@@ -2,6 +2,7 @@
 // filled chunk by chunk, each by a fill of bytes.
 use crate::ready::Start;
 use crate::runs::fill_bytes_from;
+use model::LEAST_TRIES;
 use numbers::words::word_at;
 use walk::moves::Report;
 ghost use mathlib.Core.Path.{_≡_};
@@ -72,7 +73,7 @@ pub fn fill_from(s: Start, list: &mut [u32]) -> Report
         if place.0 == w.count {
             break;
         }
-        if s.quota - paid < 3 {
+        if s.quota - paid < LEAST_TRIES {
             break;
         }
         let chunk = Start {

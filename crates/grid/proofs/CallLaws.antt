@@ -2,7 +2,8 @@
 use Prim.Native.Nat.{ℕ}
 use mathlib.Core.Path.{_≡_, refl, sym, ap, subst, _∙_}
 use mathlib.Core.Bool.{Bool, true, false, cond, _&&_}
-use mathlib.Core.List.{List, _++_}
+use mathlib.Core.List.{List, [], _∷_, _++_}
+use native.Mathlib.Nat.{pos-of-ne-zero}
 use native.Mathlib.Omega.{arith}
 use lib.Dec.{eqb}
 use lib.IntN.{ℤ, pos}
@@ -11,7 +12,7 @@ use Rattle.model.specs.declared.Grid as grids
 use Rattle.model.specs.Mappings.{Mapping}
 use Rattle.model.specs.Ownership.{nat, fromLower, declaredIndex, layoutOf, owner, rank, held, backTo}
 use Rattle.model.specs.Questions.{Question, firstNo, isBelow, isIndex}
-use Rattle.model.specs.Calls.{OwnershipAnswer}
+use Rattle.model.specs.Calls.{OwnershipAnswer, ToldApart}
 use Rattle.model.specs.Grids.{Three, Grid, mappingsOf, gridWith, gridArray, numberOf, indicesOf, ofGrid, ofIndices, ofGridProcessor, ofGridAddress}
 use Rattle.model.specs.GridCalls.{indicesIn, gridOwnership, GridBackAnswer, gridGoingBack}
 use Rattle.model.proofs.QuestionLaws.{all-yes, asks-on, stops}
@@ -61,6 +62,9 @@ module _ (g : grids.Grid) (b c d : List ℕ) where
         go false p =
             let f : firstNo (ofGrid whole) ≡ e = let h = rw p at r in cc in
             record { first = f; some = λ z. eqb-false _ 0 p (f ∙ z) }
+
+    pub told-apart : ToldApart (e ∷ [])
+    told-apart = (pos-of-ne-zero (stopped .some), tt)
 
     refused-on : (rest : List Question) → firstNo (ofGrid whole ++ rest) ≡ e
     refused-on rest = stops (ofGrid whole) rest (λ z. stopped .some (sym (stopped .first) ∙ z)) ∙ stopped .first

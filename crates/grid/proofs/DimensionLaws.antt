@@ -47,11 +47,11 @@ owner-below l s (genBlock sizes left) e i h =
 -- an element that is found is one of the array
 pub found-below : (l : Layout) → Sized l → (q : ℕ) (p : Part) (x : ℕ) → x < heldIn l q p → foundIn l q p x < l .size
 found-below l s q Blocks x h = rank-back (ownerOf l) (l .size) q x h .inside
-found-below l s q (Run r) x h = omega (arith, cut-le l s (r .end))
+found-below l s q (Run r) x h = omega (arith, cut-le l s (r .end .0))
 
 held-inside : (l : Layout) → Sized l → (q : ℕ) (p : Part) → heldIn l q p ≤ l .size
 held-inside l s q Blocks = held-le (ownerOf l) q (l .size)
-held-inside l s q (Run r) = omega (arith, cut-le l s (r .end))
+held-inside l s q (Run r) = omega (arith, cut-le l s (r .end .0))
 
 pub held-small : (x : Dimension) (h : Held) → HeldKnown x h → h .elements ≤ 2147483647
 held-small x h k = omega (arith, k .elements, held-inside (x .layout) (k .ranged .0) (h .processor) (h .part), k .ranged .0 .size-high)

@@ -19,7 +19,7 @@ use Rattle.grid.specs.declared.elements.Held.{Held}
 use Rattle.grid.specs.Dimensions.{arrayIn, gridIn, AllKnown}
 use Rattle.grid.specs.Answers.{numbered, hasIndex, fromLowerIn, keptIn, ownershipOn}
 use Rattle.grid.specs.Answers.{indicesFrom, heldBy, indexIn, foundAmong, indicesBy, goingBackOn}
-use Rattle.grid.proofs.ThreeLaws.{heldOf, backOf, held-within, owner-three, rank-three, processor-lt, address-lt}
+use Rattle.grid.proofs.ThreeLaws.{heldOf, backOf, held-within, owner-three, rank-three, address-lt}
 use Rattle.grid.proofs.ThreeLaws.{near-lt, row-lt, plane-lt, held-three, u-lt, v-lt, w-lt, found-first, found-second, found-third}
 use Rattle.grid.proofs.DimensionLaws.{dealt, held-here, found-here, index-below}
 
@@ -58,28 +58,26 @@ module _ (x : Dimensions) (b c d : List ℕ) where
       abbrev w : Kept
       w = keptIn plane (fromLowerIn (x .third) t)
 
-      pub owner-high : numbered (u .processor) (near .processors) (v .processor) (row .processors) (w .processor) ≤ 2147483647
-      owner-high =
-          omega (
-            arith,
-            processor-lt near row plane (dealt (x .first) b (k .first)) (dealt (x .second) c (k .second)) (fromLowerIn (x .first) r) (fromLowerIn (x .second) s)
-                (fromLowerIn (x .third) t) (index-below (x .first) r first-in .below) (index-below (x .second) s second-in .below)
-                (dealt (x .third) d (k .third)) (index-below (x .third) t third-in .below),
-            k .processors,
-          )
+      -- its coordinates
+      pub coordinates : (u .processor < 1024) × (v .processor < 1024) × (w .processor < 1024)
+      coordinates = (
+        omega (arith, dealt (x .first) b (k .first) _ (index-below (x .first) r first-in .below), k .first .ranged .0 .processors-high),
+        omega (arith, dealt (x .second) c (k .second) _ (index-below (x .second) s second-in .below), k .second .ranged .0 .processors-high),
+        omega (arith, dealt (x .third) d (k .third) _ (index-below (x .third) t third-in .below), k .third .ranged .0 .processors-high),
+      )
 
       pub some-held : 0 < u .elements
       some-held =
           let i : ℕ = fromLowerIn (x .first) r in
           omega (arith, rank-lt (near .owner) (near .size) (near .owner i) i (index-below (x .first) r first-in .below) refl)
 
-      pub address-high : numbered (u .address) (u .elements) (v .address) (v .elements) (w .address) ≤ 2147483647
+      pub address-high : numbered (u .address .0) (u .elements) (v .address .0) (v .elements) (w .address .0) ≤ 2147483647
       address-high =
           omega (
             arith,
             address-lt near row plane (dealt (x .first) b (k .first)) (dealt (x .second) c (k .second)) (fromLowerIn (x .first) r) (fromLowerIn (x .second) s)
                 (fromLowerIn (x .third) t) (index-below (x .first) r first-in .below) (index-below (x .second) s second-in .below)
-                (dealt (x .third) d (k .third)) (index-below (x .third) t third-in .below),
+                (index-below (x .third) t third-in .below),
             held-within near row plane (u .processor) (v .processor) (w .processor),
             k .size,
           )
@@ -88,7 +86,7 @@ module _ (x : Dimensions) (b c d : List ℕ) where
       owned = record {
         refusal = 0;
         processor = numbered (u .processor) (near .processors) (v .processor) (row .processors) (w .processor);
-        address = numbered (u .address) (u .elements) (v .address) (v .elements) (w .address);
+        address = numbered (u .address .0) (u .elements) (v .address .0) (v .elements) (w .address .0);
       }
 
       pub owned-so : owned ≡ ownershipOn x b c d r s t

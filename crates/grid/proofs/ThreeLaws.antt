@@ -1,6 +1,7 @@
 -- Laws of products of three arrays: owner, address and way back of an element, by those of its parts. Assumes nothing.
-use Prim.Native.Nat.{ℕ, _*_, _/_, _%_, _≤_, _<_}
+use Prim.Native.Nat.{ℕ, _+_, _*_, _/_, _%_, _≤_, _<_}
 use mathlib.Core.Path.{_≡_, refl, sym, ap, _∙_}
+use native.Mathlib.Omega.{arith}
 use Rattle.numbers.proofs.Division.{product-le}
 use Rattle.model.specs.Ownership.{rank, held, backTo}
 use Rattle.model.specs.Axes.{Array, paired, product}
@@ -16,6 +17,13 @@ heldOf a q = held (a .owner) (a .size) q
 
 abbrev pub backOf : Array → ℕ → ℕ → ℕ
 backOf a q x = backTo (a .owner) (a .size) q x
+
+-- the number of coordinates, whichever they are, is small
+pub number-high : {x n y m z : ℕ} → x < 1024 → n ≤ 1024 → y < 1024 → m ≤ 1024 → z < 1024 → numbered x n y m z ≤ 2147483647
+number-high {x} {n} {y} {m} {z} a b c d e =
+    let last : z ≤ 1023 = omega arith in
+    let rest : y + m * z ≤ 1048575 = omega (arith, product-le 1024 1023 d last) in
+    omega (arith, product-le 1024 1048575 b rest)
 
 module _ (a b c : Array) where
   abbrev rest : Array
@@ -43,13 +51,7 @@ module _ (a b c : Array) where
           rank-pair a rest d i (paired (b .size) j k) l
           ∙ ap (paired (heldOf a (a .owner i)) (rank (a .owner) i)) (rank-pair b c e j k m)
 
-      module _ (f : Dealt c) (n : k < c .size) where
-        pub processor-lt : numbered (a .owner i) (a .processors) (b .owner j) (b .processors) (c .owner k)
-            < a .processors * (b .processors * c .processors)
-        processor-lt =
-            pair-lt (a .processors) (b .processors * c .processors) (a .owner i) (paired (b .processors) (b .owner j) (c .owner k)) (d i l)
-            (pair-lt (b .processors) (c .processors) (b .owner j) (c .owner k) (e j m) (f k n))
-
+      module _ (n : k < c .size) where
         pub address-lt : numbered (rank (a .owner) i) (heldOf a (a .owner i)) (rank (b .owner) j) (heldOf b (b .owner j)) (rank (c .owner) k)
             < heldOf a (a .owner i) * (heldOf b (b .owner j) * heldOf c (c .owner k))
         address-lt =

@@ -3,7 +3,7 @@
 use Prim.Native.Nat.{ℕ, _*_, _/_, _%_, _<_}
 use mathlib.Core.Path.{_≡_}
 use mathlib.Core.Bool.{Bool, cond, _&&_}
-use mathlib.Core.List.{List}
+use mathlib.Core.List.{List, [], _∷_}
 use lib.IntN.{ℤ, pos, _+ℤ_, _-ℤ_}
 use Rattle.model.specs.Mappings.{dealingWith}
 use Rattle.model.specs.Ownership.{nat, rank, held, backTo}
@@ -42,7 +42,7 @@ fromLowerIn x j = nat (j -ℤ x .lower)
 
 -- where an element of it is kept
 abbrev pub keptIn : Array → ℕ → Kept
-keptIn a i = record { processor = a .owner i; address = rank (a .owner) i; elements = held (a .owner) (a .size) (a .owner i) }
+keptIn a i = record { processor = a .owner i; address = record { 0 = rank (a .owner) i }; elements = held (a .owner) (a .size) (a .owner i) }
 
 unfoldable pub ownershipOn : Dimensions → List ℕ → List ℕ → List ℕ → ℤ → ℤ → ℤ → OwnershipAnswer
 ownershipOn x b c d i j k =
@@ -62,6 +62,11 @@ notFound e = record { refusal = e; indices = zeros }
 abbrev pub foundAs : Found → GridBackAnswer
 foundAs (found.At i j k) = record { refusal = 0; indices = indicesFrom (i .0) (j .0) (k .0) }
 foundAs (found.Refused e) = notFound e
+
+-- the numbers of the refusals that it holds, if any
+abbrev pub foundRefusals : Found → List ℕ
+foundRefusals (found.At i j k) = []
+foundRefusals (found.Refused e) = e ∷ []
 
 -- what coordinate q has of a dimension
 abbrev pub heldBy : Dimension → List ℕ → ℕ → Held

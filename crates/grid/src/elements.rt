@@ -3,10 +3,11 @@
 ghost use mathlib.Core.Path.{_≡_};
 ghost use mathlib.Core.Bool.{true, _&&_};
 ghost use Prim.Native.Nat.{_*_, _≤_, _<_};
-ghost use Rattle.mapping.specs.Answers.{Ranged, ownedAs};
+ghost use Rattle.model.specs.Calls.{ToldApart};
+ghost use Rattle.mapping.specs.Answers.{Ranged, ownedAs, ownedRefusals};
 ghost use Rattle.mapping.specs.Parts.{Low};
 ghost use Rattle.grid.specs.Dimensions.{arrayIn, Known, AllKnown};
-ghost use Rattle.grid.specs.Answers.{numbered, hasIndex, fromLowerIn, keptIn, ownershipOn, heldBy, HeldKnown, indexIn, foundAs, foundAmong, goingBackOn};
+ghost use Rattle.grid.specs.Answers.{numbered, hasIndex, fromLowerIn, keptIn, ownershipOn, heldBy, HeldKnown, indexIn, foundAs, foundRefusals, foundAmong, goingBackOn};
 use crate::dimensions::Dimension;
 use crate::dimensions::Dimensions;
 use mapping::Owned;
@@ -38,23 +39,23 @@ fn has_index(x: Dimension, index: i64) -> bool
 // many elements the owner has.
 struct Kept {
     processor: u64,
-    address: u64,
+    address: Address,
     elements: u64,
 }
 
-fn kept_at(x: Dimension, sizes: &[u8], index: i64) -> Kept
+fn kept_at(x: Dimension, sizes: &[u8], index: Declared) -> Kept
     requires { ⌜ Known x (now sizes) ⌝ }
-    requires { ⌜ hasIndex x index ≡ true ⌝ }
-    ensures { λ r. ⌜ r ≡ keptIn (arrayIn x (now (sizes .entry))) (fromLowerIn x index) ⌝ }
+    requires { ⌜ hasIndex x (index .0) ≡ true ⌝ }
+    ensures { λ r. ⌜ r ≡ keptIn (arrayIn x (now (sizes .entry))) (fromLowerIn x (index .0)) ⌝ }
 {
     let l = x.layout;
     let d = x.dealing;
-    let home = home_of(l, d, sizes, Index(natural(index - x.lower)));
+    let home = home_of(l, d, sizes, Index(natural(index.0 - x.lower)));
     let address = home.address;
     let part = part_of(l, d, sizes, home.processor);
     Kept {
         processor: home.processor,
-        address: address.0,
+        address,
         elements: elements_in(l, home.processor, part),
     }
 }
@@ -97,6 +98,7 @@ pub fn owned_on(
 ) -> Owned
     requires { ⌜ AllKnown x (now b) (now c) (now d) ⌝ }
     ensures { λ r. ⌜ ownedAs r ≡ ownershipOn x (now (b .entry)) (now (c .entry)) (now (d .entry)) first second third ⌝ }
+    ensures { λ r. ⌜ ToldApart (ownedRefusals r) ⌝ }
 {
     if !are_indices(x, first, second, third) {
         return Owned::Refused(9);
@@ -104,19 +106,19 @@ pub fn owned_on(
     let k = x.first;
     let l = x.second;
     let m = x.third;
-    let near = kept_at(k, b, first);
-    let row = kept_at(l, c, second);
-    let plane = kept_at(m, d, third);
+    let near = kept_at(k, b, Declared(first));
+    let row = kept_at(l, c, Declared(second));
+    let plane = kept_at(m, d, Declared(third));
     let p = k.layout.processors;
     let q = l.layout.processors;
     Owned::At {
         processor: numbered(near.processor, p, row.processor, q, plane.processor),
         address: Address(numbered(
-            near.address,
+            near.address.0,
             near.elements,
-            row.address,
+            row.address.0,
             row.elements,
-            plane.address,
+            plane.address.0,
         )),
     }
 }
@@ -152,13 +154,13 @@ fn held_by(x: Dimension, sizes: &[u8], processor: u64) -> Held
 }
 
 // The declared index at an address of one dimension.
-fn index_at(x: Dimension, h: Held, address: u64) -> Declared
-    requires { ⌜ HeldKnown x h × (address < h .elements) ⌝ }
-    ensures { λ r. ⌜ r .0 ≡ indexIn x h address ⌝ }
+fn index_at(x: Dimension, h: Held, address: Address) -> Declared
+    requires { ⌜ HeldKnown x h × (address .0 < h .elements) ⌝ }
+    ensures { λ r. ⌜ r .0 ≡ indexIn x h (address .0) ⌝ }
 {
     let l = x.layout;
     let part = h.part;
-    let i = element_in(l, h.processor, part, Address(address));
+    let i = element_in(l, h.processor, part, address);
     Declared(x.lower + (i.0 as i64))
 }
 
@@ -169,6 +171,7 @@ fn found_among(x: Dimensions, near: Held, row: Held, plane: Held, address: i64) 
     requires { ⌜ HeldKnown (x .third) plane ⌝ }
     requires { ⌜ near .elements * (row .elements * plane .elements) ≤ 2147483647 ⌝ }
     ensures { λ r. ⌜ foundAs r ≡ foundAmong x near row plane address ⌝ }
+    ensures { λ r. ⌜ ToldApart (foundRefusals r) ⌝ }
 {
     if !is_below(address, near.elements * (row.elements * plane.elements)) {
         return Found::Refused(9);
@@ -179,9 +182,9 @@ fn found_among(x: Dimensions, near: Held, row: Held, plane: Held, address: i64) 
     let l = x.second;
     let m = x.third;
     Found::At(
-        index_at(k, near, a % near.elements),
-        index_at(l, row, rest % row.elements),
-        index_at(m, plane, rest / row.elements),
+        index_at(k, near, Address(a % near.elements)),
+        index_at(l, row, Address(rest % row.elements)),
+        index_at(m, plane, Address(rest / row.elements)),
     )
 }
 
@@ -189,6 +192,7 @@ fn found_among(x: Dimensions, near: Held, row: Held, plane: Held, address: i64) 
 pub fn found_on(x: Dimensions, b: &[u8], c: &[u8], d: &[u8], processor: i64, address: i64) -> Found
     requires { ⌜ AllKnown x (now b) (now c) (now d) ⌝ }
     ensures { λ r. ⌜ foundAs r ≡ goingBackOn x (now (b .entry)) (now (c .entry)) (now (d .entry)) processor address ⌝ }
+    ensures { λ r. ⌜ ToldApart (foundRefusals r) ⌝ }
 {
     let k = x.first;
     let l = x.second;

@@ -10,14 +10,11 @@ ghost use lib.Signed.{leZ};
 ghost use Rattle.grid.specs.Ranks.{singleNumbers, singleTriplet};
 use model::Dealing;
 use model::Layout;
+use model::MOST;
+use model::MOST_PROCESSORS;
 use model::Mapping;
 use model::Section;
 use model::Triplet;
-
-// The most processors of a grid, and the most elements of an array.
-const MOST_PROCESSORS: u64 = 1024;
-
-const MOST_ELEMENTS: u64 = 2147483647;
 
 // ---- dimensions past the rank
 
@@ -84,15 +81,16 @@ pub fn products_fit(a: Layout, b: Layout, c: Layout) -> bool
     requires { ⌜ (a .size ≤ 2147483647) × (b .size ≤ 2147483647) × (c .size ≤ 2147483647) ⌝ }
     ensures { λ r. ⌜ r ≡ (leb (a .processors * (b .processors * c .processors)) 1024 && leb (a .size * (b .size * c .size)) 2147483647) ⌝ }
 {
-    if MOST_PROCESSORS < a.processors * (b.processors * c.processors) {
+    if (MOST_PROCESSORS as u64) < a.processors * (b.processors * c.processors) {
         return false;
     }
     if a.size == 0 {
         return true;
     }
     let rest = b.size * c.size;
-    if MOST_ELEMENTS < rest {
+    let most = MOST as u64;
+    if most < rest {
         return false;
     }
-    a.size * rest <= MOST_ELEMENTS
+    a.size * rest <= most
 }

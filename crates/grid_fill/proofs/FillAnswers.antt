@@ -189,9 +189,10 @@ module _ (x : GridSection) (q t z : ℤ) where
       let o = runs s e (wordsOf 4 bs) in (
         (λ i. record { refusal = 0; entries = b .entries i; tries = b .tries i; place = b .place i }) ∙ ap reportOf o,
         b .bytes ∙ ap (stored bs) o,
+        tt,
       )
 
   -- a refused fill stores nothing
   pub bytes-refused : (n : ℕ) (bs : List ℕ) → readyOf x q t z ≡ Refused n → GridFilledBytes (bytesCall bs) bs (filled.Refused n)
   unfolding inWords gridBytesAfter storeEntries
-  bytes-refused n bs e = let o = stays n e (wordsOf 4 bs) in (ap reportOf o, ap (stored bs) o)
+  bytes-refused n bs e = let o = stays n e (wordsOf 4 bs) in (ap reportOf o, ap (stored bs) o, (omega (arith, refused n e .some), tt))

@@ -80,7 +80,7 @@ module _ (x : GridSection) (p : RowPlan) (o : PlanOf p x) (at : Stand) (st : Sta
           (next-le second (second-walks x p o) (p .second .processor) t here, λ l. next-on second (second-walks x p o) (p .second .processor) t here l .1)
 
   pub row-base : (j : ℕ) (h : j < r .entries)
-      → baseAt (p .elements) (p .rows) (plane .address) bs′ j ≡ baseOf x p o (rowAfter j) (at .third .0) (row-on j h) (st .third v)
+      → baseAt (p .elements) (p .rows) (plane .address .0) bs′ j ≡ baseOf x p o (rowAfter j) (at .third .0) (row-on j h) (st .third v)
   row-base j h =
       let words : wordsOf 4 bs′ ≡ g .list = ap (wordsOf 4) (gave .bytes) ∙ stored-words bs g written in
       let e : getD (wordsOf 4 bs′) j 0 ≡ walkOn second .address (rowAfter j) =

@@ -267,14 +267,14 @@ small-product a b h l = le-trans (mul-le-mul-left a l) (mul-le-mul-right 2147483
 
 -- an address is low
 pub step-low : (x : Section) → firstNo (ofSection x) ≡ 0 → (s : Share) → ShareIn x s → (t : ℕ) → On (axisOf x) (s .processor) t → (r : Step) → Stepped s t r
-    → r .address ≤ 2147483647
+    → r .address .0 ≤ 2147483647
 unfolding address
 step-low x ok s i t on r step = omega (arith, step x ok (i .share) .0, address-low x ok t (on .0))
 
 -- and so is the row's base
 pub base-is : (x : GridSection) (p : RowPlan) (o : PlanOf p x) (at : Stand) (st : Standing x p at) (v : at .third .0 < axisOf (sectionsOf x .third) .count)
     (r s : Step) → Stepped (p .second) (at .second .0) r → Stepped (p .third) (at .third .0) s
-    → p .elements * (r .address + p .rows * s .address) ≡ heightOf x p o at st v
+    → p .elements * (r .address .0 + p .rows * s .address .0) ≡ heightOf x p o at st v
 base-is x p o at st v r s row plane =
     let e = row (sectionsOf x .second) (second-yes x (o .accepted)) (o .second .share) .0 in
     let f = plane (sectionsOf x .third) (third-yes x (o .accepted)) (o .third .share) .0 in

@@ -24,4 +24,4 @@ pub record Placed (s : Share) (t : ℕ) : Type 0 where
 abbrev pub Stepped : Share → ℕ → Step → Type 0
 Stepped s t r =
     (x : Section) → firstNo (ofSection x) ≡ 0 → s ≡ shareOf x (s .processor)
-    → (r .address ≡ walkOn (axisOf x) .address t) × (r .next .0 ≡ walkOn (axisOf x) .next t)
+    → (r .address .0 ≡ walkOn (axisOf x) .address t) × (r .next .0 ≡ walkOn (axisOf x) .next t)

@@ -4,6 +4,7 @@ use crate::rows::Stand;
 use crate::turns::Whole;
 use crate::turns::next_turn;
 use grid_section::lines::product_of;
+use model::LEAST_TRIES;
 use model::Position;
 use walk::moves::Report;
 ghost use mathlib.Core.Path.{_≡_};
@@ -50,7 +51,7 @@ fn fill_turns(p: RowPlan, start: Stand, quota: u64, list: &mut [u8]) -> Ended
         if count <= at.third.0 {
             break;
         }
-        if quota - paid < 3 {
+        if quota - paid < LEAST_TRIES {
             break;
         }
         let t = next_turn(p, at, whole, quota - paid, list, n);

@@ -13,6 +13,8 @@ use mapping::parts::part_of;
 use mapping::questions::natural;
 use mapping::questions::within;
 use model::GridSection;
+use model::LEAST_TRIES;
+use model::MOST_TRIES;
 use model::Position;
 ghost use mathlib.Core.Path.{_≡_};
 ghost use Prim.Native.Nat.{_<_};
@@ -63,7 +65,7 @@ fn ready_in(x: Lines, b: &[u8], c: &[u8], d: &[u8], processor: i64, place: i64, 
     if !is_place(shares, place) {
         return Ready::Refused(10);
     }
-    if !within(3, 1000000, quota) {
+    if !within(LEAST_TRIES as i64, MOST_TRIES as i64, quota) {
         return Ready::Refused(11);
     }
     let k = x.first;

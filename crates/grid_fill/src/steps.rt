@@ -2,6 +2,8 @@
 use fill::ready::Start;
 use fill::ways::Way;
 use fill::ways::fill_bytes_by;
+use model::Address;
+use model::MOST_TRIES;
 use model::Position;
 use numbers::words::word_at;
 use section::shares::Share;
@@ -10,10 +12,8 @@ ghost use Rattle.fill.specs.Ready.{FillsBytesFrom};
 ghost use Rattle.fill.specs.Ways.{WayOf};
 ghost use Rattle.grid_fill.specs.Steps.{fromPlace, Placed, Stepped};
 
-// The tries that a fill may be lent: enough for every list here.
-const MOST_TRIES: u64 = 1000000;
-
-// The addresses of the share's elements from place t on, as many as the list has room for.
+// The addresses of the share's elements from place t on, as many as the list has room for: the tries
+// are enough for every list here.
 pub(crate) fn addresses_from(s: Share, way: Way, t: Position, list: &mut [u8]) -> Report
     requires { ⌜ Placed s (t .0) × WayOf s way ⌝ }
     ensures { λ r. ⌜ FillsBytesFrom (fromPlace s (t .0) 1000000) (now (list .entry)) (now (list .exit)) r ⌝ }
@@ -32,7 +32,7 @@ pub(crate) fn addresses_from(s: Share, way: Way, t: Position, list: &mut [u8]) -
 
 // The address of one element, and the place after it.
 pub struct Step {
-    pub address: u64,
+    pub address: Address,
     pub next: Position,
 }
 
@@ -44,7 +44,7 @@ pub(crate) fn step_from(s: Share, way: Way, t: Position) -> Step
     let r = addresses_from(s, way, t, &mut entry);
     let next = r.place;
     Step {
-        address: word_at(&entry, 0) as u64,
+        address: Address(word_at(&entry, 0) as u64),
         next: next,
     }
 }

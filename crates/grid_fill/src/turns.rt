@@ -8,7 +8,7 @@ use crate::rows::fill_row;
 use crate::steps::Step;
 use crate::steps::addresses_from;
 use crate::steps::step_from;
-use model::Position;
+use model::Address;
 use numbers::words::word_at;
 use walk::moves::Report;
 use walk::moves::{self};
@@ -93,7 +93,7 @@ fn row_turn(p: RowPlan, at: Stand, plane: Step, quota: u64, list: &mut [u8], n: 
     let second_way = p.second_way;
     let u = at.second;
     let row = step_from(second, second_way, u);
-    let base = p.elements * (row.address + p.rows * plane.address);
+    let base = p.elements * (row.address.0 + p.rows * plane.address.0);
     let first = p.first;
     let first_way = p.first_way;
     let t = at.first;
@@ -133,19 +133,19 @@ fn rows_again(enters: bool, w: Whole, quota: u64, room: usize) -> usize
 fn put_rows(
     elements: u64,
     rows: u64,
-    plane: u64,
+    plane: Address,
     addresses: &[u8],
     w: Whole,
     count: usize,
     list: &mut [u8],
     n: usize,
 )
-    requires { ⌜ Copies elements rows plane (now addresses) w count (length (now list)) n ⌝ }
-    ensures { λ r. ⌜ now (list .exit) ≡ putRows (baseAt elements rows plane (now (addresses .entry))) w (now (list .entry)) n count ⌝ }
+    requires { ⌜ Copies elements rows (plane .0) (now addresses) w count (length (now list)) n ⌝ }
+    ensures { λ r. ⌜ now (list .exit) ≡ putRows (baseAt elements rows (plane .0) (now (addresses .entry))) w (now (list .entry)) n count ⌝ }
 {
     let mut j: usize = 0;
     while j < count {
-        let base = elements * (word_at(addresses, j) as u64 + rows * plane);
+        let base = elements * (word_at(addresses, j) as u64 + rows * plane.0);
         let add = (base + (moves::ADDRESSES - w.base)) % moves::ADDRESSES;
         put_higher(list, w.from, n + j * w.entries, w.entries, add);
         j += 1;

@@ -1,7 +1,7 @@
 -- The answers of this crate, each case read as document 02's numbers. Definitions only.
 use Prim.Native.Nat.{ℕ}
 use mathlib.Core.Bool.{cond}
-use mathlib.Core.List.{List, []}
+use mathlib.Core.List.{List, [], _∷_, _++_}
 use lib.IntN.{ℤ, pos}
 use Rattle.model.specs.Mappings.{dealingWith}
 use Rattle.model.specs.Ownership.{nat}
@@ -26,6 +26,11 @@ abbrev pub stepsAs : GridSteps → GridStepsAnswer
 stepsAs (steps.By n a b c) =
     record { refusal = 0; count = n; dimensions = record { first = section.stepsAs a; second = section.stepsAs b; third = section.stepsAs c } }
 stepsAs (steps.Refused e) = notStepped e
+
+-- the numbers of the refusals that it holds, if any: a report's too
+abbrev pub stepsRefusals : GridSteps → List ℕ
+stepsRefusals (steps.By n a b c) = section.stepsRefusals a ++ section.stepsRefusals b ++ section.stepsRefusals c
+stepsRefusals (steps.Refused e) = e ∷ []
 
 -- the steps of one dimension, which have nothing to do with its list
 abbrev pub reportOn : Line → SectionStepsAnswer

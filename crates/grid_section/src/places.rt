@@ -5,9 +5,10 @@ ghost use Prim.Native.Nat.{_<_};
 ghost use lib.IntN.{pos};
 ghost use Rattle.model.specs.Mappings.{dealingWith};
 ghost use Rattle.model.specs.Questions.{isBelow};
+ghost use Rattle.model.specs.Calls.{ToldApart};
 ghost use Rattle.mapping.specs.Parts.{Listed};
 ghost use Rattle.section.specs.Strides.{Bounded};
-ghost use Rattle.section.specs.Answers.{placedAs};
+ghost use Rattle.section.specs.Answers.{placedAs, placedRefusals};
 ghost use Rattle.grid_section.specs.Lines.{processorsOn, Limited, AllListed};
 ghost use Rattle.grid_section.specs.Shares.{shareOn, sharesOn, positionsIn, firstBy, ownedOn, isPlaceBy, AllFitted};
 ghost use Rattle.grid_section.specs.Answers.{firstPlaceOn};
@@ -88,17 +89,17 @@ pub fn first_on(s: Shares) -> Position
 }
 
 // Does the processor own the element at position t? Its coordinates own its position in each dimension.
-fn owns_on(s: Shares, t: u64) -> bool
-    requires { ⌜ AllFitted s × (t < positionsIn s) ⌝ }
-    ensures { λ r. ⌜ r ≡ ownedOn s t ⌝ }
+fn owns_on(s: Shares, t: Position) -> bool
+    requires { ⌜ AllFitted s × (t .0 < positionsIn s) ⌝ }
+    ensures { λ r. ⌜ r ≡ ownedOn s (t .0) ⌝ }
 {
     let a = s.first;
     let b = s.second;
     let c = s.third;
     let m = a.section.count;
     let n = b.section.count;
-    let row = t / m;
-    if !owns_at(a, Position(t % m)) {
+    let row = t.0 / m;
+    if !owns_at(a, Position(t.0 % m)) {
         return false;
     }
     if !owns_at(b, Position(row % n)) {
@@ -126,13 +127,14 @@ pub fn is_place(s: Shares, place: i64) -> bool
     if count < t {
         return false;
     }
-    owns_on(s, t)
+    owns_on(s, Position(t))
 }
 
 // Question 8, and the first place of a processor that passes it.
 pub fn placed_on(x: Lines, b: &[u8], c: &[u8], d: &[u8], processor: i64) -> Placed
     requires { ⌜ Limited x × AllListed x (now b) (now c) (now d) ⌝ }
     ensures { λ r. ⌜ placedAs r ≡ firstPlaceOn x (now (b .entry)) (now (c .entry)) (now (d .entry)) processor ⌝ }
+    ensures { λ r. ⌜ ToldApart (placedRefusals r) ⌝ }
 {
     if !is_processor(x, processor) {
         return Placed::Refused(8);

@@ -1,9 +1,10 @@
 // The count of an accepted section of a grid, and each dimension's steps.
 ghost use mathlib.Core.Path.{_≡_};
+ghost use Rattle.model.specs.Calls.{ToldApart};
 ghost use Rattle.section.specs.Strides.{Bounded};
 ghost use Rattle.section.specs.Answers as section;
 ghost use Rattle.grid_section.specs.Lines.{Limited};
-ghost use Rattle.grid_section.specs.Answers.{stepsAs, reportOn, stepsOn};
+ghost use Rattle.grid_section.specs.Answers.{stepsAs, stepsRefusals, reportOn, stepsOn};
 use crate::lines::Line;
 use crate::lines::Lines;
 use crate::lines::product_of;
@@ -20,6 +21,7 @@ pub enum GridSteps {
 fn report_on(x: Line) -> SectionSteps
     requires { ⌜ Bounded (x .section) ⌝ }
     ensures { λ r. ⌜ section.stepsAs r ≡ reportOn x ⌝ }
+    ensures { λ r. ⌜ ToldApart (section.stepsRefusals r) ⌝ }
 {
     let w = x.section;
     let d = x.dealing;
@@ -29,6 +31,7 @@ fn report_on(x: Line) -> SectionSteps
 pub fn steps_on(x: Lines) -> GridSteps
     requires { ⌜ Limited x ⌝ }
     ensures { λ r. ⌜ stepsAs r ≡ stepsOn x ⌝ }
+    ensures { λ r. ⌜ ToldApart (stepsRefusals r) ⌝ }
 {
     let a = x.first;
     let b = x.second;

@@ -12,10 +12,10 @@ use Rattle.model.specs.declared.Dealing.the-variants.{Cyclic}
 use Rattle.model.specs.declared.Mapping as mappings
 use Rattle.model.specs.declared.Section as sections
 use Rattle.model.specs.Mappings.{Dealing, cyclic, Mapping, Section, dealingWith, mappingWith, sectionWith}
+use Rattle.model.specs.Sections.{tripletOf}
 use Rattle.model.specs.Transfers.{Lists}
 use Rattle.mapping.specs.Answers.{mappingOf}
 use Rattle.transfer.specs.Answers.{callOf}
-use Rattle.section.specs.Strides.{tripletOf}
 use Rattle.hpfaddr.specs.Fields.{numbersOf, dealingFrom, byNumber, fillOf}
 
 -- a mapping made of the numbers as the machine reads them back, with its list

@@ -9,12 +9,12 @@ use Rattle.model.specs.declared.Dealing as dealings
 use Rattle.model.specs.declared.Dealing.the-variants.{Cyclic, GenBlock}
 use Rattle.model.specs.declared.Mapping as mappings
 use Rattle.model.specs.Mappings.{Dealing, Section, dealingWith}
+use Rattle.model.specs.Sections.{tripletOf}
 use Rattle.model.specs.Calls.{OwnershipAnswer, GoingBackAnswer, LocalCountAnswer, SectionStepsAnswer, PlaceAnswer, fill}
 use Rattle.model.specs.ByteFills.{ByteFill, inWords, bytesAfter}
 use Rattle.model.specs.Transfers.{Lists, TransferCall, TransferAnswer, transfers, listsAfter}
 use Rattle.model.specs.Checkpoints.{CopyCall, CopyAnswer, copying, saved, loaded}
 use Rattle.mapping.specs.Answers.{mappingOf}
-use Rattle.section.specs.Strides.{tripletOf}
 use Rattle.fill.specs.Answers.{FillReport, reportOf}
 use Rattle.hpfaddr.specs.declared.HpfOwned.{HpfOwned}
 use Rattle.hpfaddr.specs.declared.HpfFound.{HpfFound}

@@ -10,11 +10,11 @@ use Rattle.model.specs.declared.Section as sections
 use Rattle.model.specs.declared.Grid as grids
 use Rattle.model.specs.declared.GridSection as gridSections
 use Rattle.model.specs.Mappings.{Mapping, Section}
+use Rattle.model.specs.Sections.{tripletOf}
 use Rattle.model.specs.Grids.{Three, Grid, GridSection}
 use Rattle.model.specs.ByteFills.{inWords}
 use Rattle.model.specs.GridCalls.{GridBackAnswer, GridStepsAnswer, GridByteFill, gridFill, gridBytesAfter}
 use Rattle.mapping.specs.Answers.{mappingOf}
-use Rattle.section.specs.Strides.{tripletOf}
 use Rattle.fill.specs.Answers.{reportOf}
 use Rattle.grid.specs.Answers.{indicesFrom}
 use Rattle.hpfaddr.specs.declared.sections.HpfSteps.{HpfSteps}

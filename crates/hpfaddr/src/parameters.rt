@@ -1,6 +1,6 @@
 // The mapping and the section that a C function's numbers make.
 ghost use mathlib.Core.Path.{_≡_};
-ghost use Rattle.section.specs.Strides.{tripletOf};
+ghost use Rattle.model.specs.Sections.{tripletOf};
 ghost use Rattle.hpfaddr.specs.Fields.{dealingFrom, numbersOf};
 use model::Dealing;
 use model::Mapping;

@@ -1,14 +1,15 @@
 -- Counting a processor's cells, and with stride 1 its elements, directly. Assumes nothing.
 use Prim.Native.Nat.{ℕ, zero, suc, _+_, _-_, _*_, _/_, _%_, _^_, _≤_, _<_}
 use mathlib.Core.Path.{_≡_, refl, sym, ap, _∙_}
-use native.Mathlib.Nat.{le-of-lt, mul-comm, div-div-eq-div-mul, div-add-mod', mod-lt, mul-le-mul-right, div-lt-iff-lt-mul}
+use native.Mathlib.Nat.{le-of-lt, div-add-mod', mod-lt, mul-le-mul-right, div-lt-iff-lt-mul}
 use native.Mathlib.Decide.{decLt}
 use native.Mathlib.Omega.{arith}
 use Rattle.numbers.proofs.Division.{div-is, rest-is}
 use Rattle.model.specs.declared.Layout.{Layout}
-use Rattle.model.specs.Ownership.{held, rank, backTo, cellOf, cellOwner, courseCells, courseOf, columnOf, ownerOf}
+use Rattle.model.specs.Ownership.{held, rank, backTo, cellOf, cellOwner, courseOf, columnOf, ownerOf}
 use Rattle.model.specs.Sized.{Sized}
 use Rattle.model.proofs.AddressLaws.{rank-is}
+use Rattle.model.proofs.DirectAddresses.{own-cells}
 use Rattle.mapping.specs.Bounds.{Dealt, Stored}
 use Rattle.mapping.specs.Counts.{overlap}
 use Rattle.model.proofs.HeldLaws.{held-none, held-next, held-mono, held-more, held-same, held-le, held-lt, back-is}
@@ -86,16 +87,6 @@ module _ (l : Layout) (q : ℕ) (d : Dealt l q) where
   cells-at y =
       omega (arith, cells-in (cellAt l q y) (y / k) (q * k + y % k) (omega arith) (omega (arith, mod-lt y (d .sized .block-pos), block-ends)), mod-lt y (d .sized .block-pos), div-add-mod' y k)
 
-  -- the cells below one of q's own: a block for each course before, and the columns before
-  own-cells : (c : ℕ) → cellOwner l c ≡ q → cells l q c ≡ k * courseOf l c + columnOf l c
-  unfolding cellOwner courseOf courseCells columnOf
-  own-cells c o =
-      let u : c / course ≡ c / k / l .processors = ap (λ (m : ℕ). c / m) (mul-comm (l .processors) k) ∙ sym (div-div-eq-div-mul c k (l .processors)) in
-      let b : c / k * k ≡ (c / k / l .processors * l .processors + q) * k =
-      ap (λ (m : ℕ). m * k) (omega (arith, div-add-mod' (c / k) (l .processors))) in
-      let h = mod-lt c (d .sized .block-pos) in
-      omega (arith, ap (λ (m : ℕ). k * m) u, cells-in c (c / k / l .processors) (q * k + c % k) (omega (arith, div-add-mod' c k)) (omega (arith, block-ends)))
-
   -- ---- stride 1
   module _ (one : l .stride ≡ 1) where
     cell-is : (i : ℕ) → cellOf l i ≡ i + l .offset
@@ -118,7 +109,7 @@ pub rank-direct : (l : Layout) → Sized l → l .stride ≡ 1 → (i : ℕ)
 unfolding ownerOf
 rank-direct l s one i =
     let d : Dealt l (ownerOf l i) = record { sized = s; processor = cell-owner-lt l (s .processors-pos) (cellOf l i) } in
-    omega (arith, rank-is (ownerOf l) (ownerOf l i) i refl, held-direct l (ownerOf l i) d one i, own-cells l (ownerOf l i) d (cellOf l i) refl)
+    omega (arith, rank-is (ownerOf l) (ownerOf l i) i refl, held-direct l (ownerOf l i) d one i, rank-is (cellOwner l) (ownerOf l i) (cellOf l i) refl, own-cells l (s .processors-pos) (s .block-pos) (cellOf l i))
 
 -- ---- going back with stride 1
 

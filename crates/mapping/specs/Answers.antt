@@ -73,6 +73,11 @@ abbrev pub ownedAs : Owned → OwnershipAnswer
 ownedAs (owned.At q x) = record { refusal = 0; processor = q; address = x .0 }
 ownedAs (owned.Refused e) = noOwner e
 
+-- the numbers of the refusals that it holds, if any
+abbrev pub ownedRefusals : Owned → List ℕ
+ownedRefusals (owned.At q x) = []
+ownedRefusals (owned.Refused e) = e ∷ []
+
 abbrev pub notFound : ℕ → GoingBackAnswer
 notFound e = record { refusal = e; index = pos 0 }
 
@@ -80,12 +85,20 @@ abbrev pub foundAs : Found → GoingBackAnswer
 foundAs (found.At j) = record { refusal = 0; index = j .0 }
 foundAs (found.Refused e) = notFound e
 
+abbrev pub foundRefusals : Found → List ℕ
+foundRefusals (found.At j) = []
+foundRefusals (found.Refused e) = e ∷ []
+
 abbrev pub notCounted : ℕ → LocalCountAnswer
 notCounted e = record { refusal = e; elements = 0 }
 
 abbrev pub countedAs : Counted → LocalCountAnswer
 countedAs (counted.Elements n) = record { refusal = 0; elements = n }
 countedAs (counted.Refused e) = notCounted e
+
+abbrev pub countedRefusals : Counted → List ℕ
+countedRefusals (counted.Elements n) = []
+countedRefusals (counted.Refused e) = e ∷ []
 
 -- ---- what is left to ask of an accepted layout, and the answer, by the owner of each index
 

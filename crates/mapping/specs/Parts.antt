@@ -23,12 +23,12 @@ Listed l d = runsFit (pos (l .cells)) (pos (l .processors)) d ≡ true
 
 abbrev pub partIn : Dealing → ℕ → Part
 partIn (cyclic k) q = Blocks
-partIn (genBlock sizes left) q = Run (record { start = runStart (runSizes sizes) q; end = runStart (runSizes sizes) (suc q) })
+partIn (genBlock sizes left) q = Run (record { start = record { 0 = runStart (runSizes sizes) q }; end = record { 0 = runStart (runSizes sizes) (suc q) } })
 
 -- sums of 1,024 sizes
 abbrev pub Low : Part → Type 0
 Low Blocks = Unit {0}
-Low (Run r) = (r .start ≤ r .end) × (r .end ≤ 2 ^ 42)
+Low (Run r) = (r .start .0 ≤ r .end .0) × (r .end .0 ≤ 2 ^ 42)
 
 -- ---- what it has of an array
 
@@ -39,8 +39,8 @@ indexFrom l c = multiplesBelow (l .stride) (l .size) (c - l .offset)
 -- how many elements it has, and the one at address x
 abbrev pub heldIn : Layout → ℕ → Part → ℕ
 heldIn l q Blocks = held (ownerOf l) (l .size) q
-heldIn l q (Run r) = indexFrom l (r .end) - indexFrom l (r .start)
+heldIn l q (Run r) = indexFrom l (r .end .0) - indexFrom l (r .start .0)
 
 abbrev pub foundIn : Layout → ℕ → Part → ℕ → ℕ
 foundIn l q Blocks x = backTo (ownerOf l) (l .size) q x
-foundIn l q (Run r) x = indexFrom l (r .start) + x
+foundIn l q (Run r) x = indexFrom l (r .start .0) + x

@@ -10,8 +10,8 @@ pub mod runs;
 ghost use mathlib.Core.Path.{_≡_};
 ghost use Rattle.model.specs.Mappings.{dealingWith, mappingWith};
 ghost use Rattle.model.specs.Sized.{Sized};
-ghost use Rattle.model.specs.Calls.{ownership, goingBack, localCount};
-ghost use Rattle.mapping.specs.Answers.{Ranged, ownedAs, foundAs, countedAs, ownershipIn, goingBackIn, localCountIn};
+ghost use Rattle.model.specs.Calls.{ownership, goingBack, localCount, ToldApart};
+ghost use Rattle.mapping.specs.Answers.{Ranged, ownedAs, ownedRefusals, foundAs, foundRefusals, countedAs, countedRefusals, ownershipIn, goingBackIn, localCountIn};
 ghost use Rattle.mapping.specs.Parts.{ownerFor, Listed};
 use model::Address;
 use model::Dealing;
@@ -32,6 +32,7 @@ fn owned_in(l: Layout, lower: i64, d: Dealing, sizes: &[u8], index: i64) -> Owne
     requires { ⌜ Ranged l lower ⌝ }
     requires { ⌜ Listed l (dealingWith d (now sizes)) ⌝ }
     ensures { λ r. ⌜ ownedAs r ≡ ownershipIn (ownerFor l (dealingWith d (now (sizes .entry)))) l lower index ⌝ }
+    ensures { λ r. ⌜ ToldApart (ownedRefusals r) ⌝ }
 {
     let last = questions::last_of(lower, l.size as i64);
     if !questions::within(lower, last, index) {
@@ -48,6 +49,7 @@ fn owned_in(l: Layout, lower: i64, d: Dealing, sizes: &[u8], index: i64) -> Owne
 
 pub fn ownership(m: Mapping, sizes: &[u8], index: i64) -> Owned
     ensures { λ r. ⌜ ownedAs r ≡ ownership (mappingWith m (now (sizes .entry))) index ⌝ }
+    ensures { λ r. ⌜ ToldApart (ownedRefusals r) ⌝ }
 {
     let listed = questions::list_fits(m, sizes);
     let asked = questions::ask_mapping(m, sizes, listed);
@@ -69,6 +71,7 @@ fn found_in(l: Layout, lower: i64, d: Dealing, sizes: &[u8], processor: i64, add
     requires { ⌜ Ranged l lower ⌝ }
     requires { ⌜ Listed l (dealingWith d (now sizes)) ⌝ }
     ensures { λ r. ⌜ foundAs r ≡ goingBackIn (ownerFor l (dealingWith d (now (sizes .entry)))) l lower processor address ⌝ }
+    ensures { λ r. ⌜ ToldApart (foundRefusals r) ⌝ }
 {
     let processors = l.processors;
     if !questions::is_below(processor, processors) {
@@ -82,11 +85,13 @@ fn found_in(l: Layout, lower: i64, d: Dealing, sizes: &[u8], processor: i64, add
     }
     let x = Address(questions::natural(address));
     let i = parts::element_in(l, q, part, x);
-    Found::At(Declared(lower + (i.0 as i64)))
+    let j = lower + (i.0 as i64);
+    Found::At(Declared(j))
 }
 
 pub fn going_back(m: Mapping, sizes: &[u8], processor: i64, address: i64) -> Found
     ensures { λ r. ⌜ foundAs r ≡ goingBack (mappingWith m (now (sizes .entry))) processor address ⌝ }
+    ensures { λ r. ⌜ ToldApart (foundRefusals r) ⌝ }
 {
     let listed = questions::list_fits(m, sizes);
     let asked = questions::ask_mapping(m, sizes, listed);
@@ -108,6 +113,7 @@ fn counted_in(l: Layout, d: Dealing, sizes: &[u8], processor: i64) -> Counted
     requires { ⌜ Sized l ⌝ }
     requires { ⌜ Listed l (dealingWith d (now sizes)) ⌝ }
     ensures { λ r. ⌜ countedAs r ≡ localCountIn (ownerFor l (dealingWith d (now (sizes .entry)))) l processor ⌝ }
+    ensures { λ r. ⌜ ToldApart (countedRefusals r) ⌝ }
 {
     let processors = l.processors;
     if !questions::is_below(processor, processors) {
@@ -120,6 +126,7 @@ fn counted_in(l: Layout, d: Dealing, sizes: &[u8], processor: i64) -> Counted
 
 pub fn local_count(m: Mapping, sizes: &[u8], processor: i64) -> Counted
     ensures { λ r. ⌜ countedAs r ≡ localCount (mappingWith m (now (sizes .entry))) processor ⌝ }
+    ensures { λ r. ⌜ ToldApart (countedRefusals r) ⌝ }
 {
     let listed = questions::list_fits(m, sizes);
     let asked = questions::ask_mapping(m, sizes, listed);

@@ -53,10 +53,10 @@ pub fn index_from(l: Layout, c: Cell) -> Index
 
 // How many elements a run has.
 fn elements_along(l: Layout, r: Run) -> u64
-    requires { ⌜ Sized l × (r .start ≤ r .end) × (r .end ≤ 2 ^ 42) ⌝ }
+    requires { ⌜ Sized l × (r .start .0 ≤ r .end .0) × (r .end .0 ≤ 2 ^ 42) ⌝ }
     ensures { λ n. ⌜ n ≡ heldIn l 0 (Part.Run r) ⌝ }
 {
-    index_from(l, Cell(r.end)).0 - index_from(l, Cell(r.start)).0
+    index_from(l, r.end).0 - index_from(l, r.start).0
 }
 
 // How many elements processor q has in its part.
@@ -72,10 +72,11 @@ pub fn elements_in(l: Layout, q: u64, part: Part) -> u64
 
 // The element at address x of a run.
 fn element_along(l: Layout, r: Run, x: Address) -> Index
-    requires { ⌜ Sized l × (r .start ≤ r .end) × (r .end ≤ 2 ^ 42) × (x .0 < heldIn l 0 (Part.Run r)) ⌝ }
+    requires { ⌜ Sized l × (r .start .0 ≤ r .end .0) × (r .end .0 ≤ 2 ^ 42) × (x .0 < heldIn l 0 (Part.Run r)) ⌝ }
     ensures { λ i. ⌜ i .0 ≡ foundIn l 0 (Part.Run r) (x .0) ⌝ }
 {
-    Index(index_from(l, Cell(r.start)).0 + x.0)
+    let i = index_from(l, r.start).0 + x.0;
+    Index(i)
 }
 
 // The element that local address x of processor q's part leads back to.
@@ -112,11 +113,12 @@ fn home_in_runs(l: Layout, sizes: &[u8], i: Index) -> Home
         × (r .address .0 ≡ rank (ownerFor l (dealingWith Dealing.GenBlock (now (sizes .entry)))) (i .0)) ⌝ }
 {
     let c = cell_of(l, i);
-    let owner = owner_in(sizes, c.0);
-    let first = index_from(l, Cell(owner.start));
+    let owner = owner_in(sizes, c);
+    let first = index_from(l, owner.start);
+    let x = i.0 - first.0;
     Home {
         processor: owner.processor,
-        address: Address(i.0 - first.0),
+        address: Address(x),
     }
 }
 

@@ -12,10 +12,9 @@ ghost use Rattle.mapping.specs.Bounds.{Aligned, Reached};
 use crate::runs::sizes_fit;
 use model::Dealing;
 use model::Layout;
+use model::MOST;
+use model::MOST_PROCESSORS;
 use model::Mapping;
-
-// The largest number that any question lets pass.
-const MOST: i64 = 2147483647;
 
 // The largest alignment stride.
 const MOST_STRIDE: i64 = 4096;
@@ -64,7 +63,7 @@ fn block_fits(d: Dealing) -> bool
 fn runs_fit(sizes: &[u8], t: i64, p: i64) -> bool
     ensures { λ r. ⌜ r ≡ listFits t p (dealingWith Dealing.GenBlock (now (sizes .entry))) ⌝ }
 {
-    if within(1, 1024, p) {
+    if within(1, MOST_PROCESSORS, p) {
         return sizes_fit(sizes, natural(p), natural(t));
     }
     false
@@ -89,7 +88,7 @@ fn dealing_refusal(t: i64, p: i64, d: Dealing, listed: bool, a: i64, b: i64) -> 
     if !within(1, MOST, t) {
         return 1;
     }
-    if !within(1, 1024, p) {
+    if !within(1, MOST_PROCESSORS, p) {
         return 2;
     }
     if !block_fits(d) {

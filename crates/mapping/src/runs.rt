@@ -8,15 +8,17 @@ ghost use Rattle.numbers.specs.Words.{wordsOf};
 ghost use Rattle.model.specs.Mappings.{sizesOf};
 ghost use Rattle.model.specs.Ownership.{runStart, runOwner};
 ghost use Rattle.model.specs.Questions.{eachNatural, sizesFit};
+use model::Cell;
+use model::MOST;
 use numbers::words::word_at;
 
 // The largest size that is not negative.
-const MOST: u32 = 2147483647;
+const MOST_SIZE: u32 = MOST as u32;
 
 // The cells of a processor's run: those from start to end - 1.
 pub struct Run {
-    pub start: u64,
-    pub end: u64,
+    pub start: Cell,
+    pub end: Cell,
 }
 
 // Is each size 0 or more?
@@ -27,7 +29,7 @@ fn each_natural(sizes: &[u8]) -> bool
     let n = sizes.len() / 4;
     let mut q: usize = 0;
     while q < n {
-        if MOST < word_at(sizes, q) {
+        if MOST_SIZE < word_at(sizes, q) {
             return false;
         }
         q += 1;
@@ -68,34 +70,36 @@ pub(crate) fn sizes_fit(sizes: &[u8], processors: u64, cells: u64) -> bool
 // The run of processor q.
 pub(crate) fn run_of(sizes: &[u8], q: usize) -> Run
     requires { ⌜ (q < length (now sizes) / 4) × (length (now sizes) ≤ 4096) ⌝ }
-    ensures { λ r. ⌜ r ≡ record { start = runStart (wordsOf 4 (now (sizes .entry))) q; end = runStart (wordsOf 4 (now (sizes .entry))) (suc q) } ⌝ }
-    ensures { λ r. ⌜ (r .start ≤ r .end) × (r .end ≤ 2 ^ 42) ⌝ }
+    ensures { λ r. ⌜ r ≡ record { start = record { 0 = runStart (wordsOf 4 (now (sizes .entry))) q }; end = record { 0 = runStart (wordsOf 4 (now (sizes .entry))) (suc q) } } ⌝ }
+    ensures { λ r. ⌜ (r .start .0 ≤ r .end .0) × (r .end .0 ≤ 2 ^ 42) ⌝ }
 {
     let start = start_of(sizes, q);
+    let end = start + word_at(sizes, q) as u64;
     Run {
-        start,
-        end: start + word_at(sizes, q) as u64,
+        start: Cell(start),
+        end: Cell(end),
     }
 }
 
 // A processor, and where its run starts.
 pub struct Owner {
     pub processor: u64,
-    pub start: u64,
+    pub start: Cell,
 }
 
 // The owner of cell c.
-pub(crate) fn owner_in(sizes: &[u8], c: u64) -> Owner
-    requires { ⌜ (c < sum (wordsOf 4 (now sizes))) × (length (now sizes) ≤ 4096) ⌝ }
-    ensures { λ r. ⌜ r .processor ≡ runOwner (wordsOf 4 (now (sizes .entry))) c ⌝ }
-    ensures { λ r. ⌜ r .start ≡ runStart (wordsOf 4 (now (sizes .entry))) (r .processor) ⌝ }
+pub(crate) fn owner_in(sizes: &[u8], c: Cell) -> Owner
+    requires { ⌜ (c .0 < sum (wordsOf 4 (now sizes))) × (length (now sizes) ≤ 4096) ⌝ }
+    ensures { λ r. ⌜ r .processor ≡ runOwner (wordsOf 4 (now (sizes .entry))) (c .0) ⌝ }
+    ensures { λ r. ⌜ r .start .0 ≡ runStart (wordsOf 4 (now (sizes .entry))) (r .processor) ⌝ }
 {
+    let cell = c.0;
     let n = sizes.len() / 4;
     let mut q: usize = 0;
     let mut start: u64 = 0;
     while q < n {
         let end = start + word_at(sizes, q) as u64;
-        if c < end {
+        if cell < end {
             break;
         }
         start = end;
@@ -103,6 +107,6 @@ pub(crate) fn owner_in(sizes: &[u8], c: u64) -> Owner
     }
     Owner {
         processor: q as u64,
-        start,
+        start: Cell(start),
     }
 }

@@ -244,7 +244,7 @@ module _ (x : Section) (ok : firstNo (ofSection x) ≡ 0) where
   pub mapping-yes : firstNo (ofMapping (x .mapping)) ≡ 0
   mapping-yes = both-yes (ofMapping (x .mapping)) (ofTriplet x) refl ok .0
 
-  triplet-yes : AllYes (ofTriplet x)
+  pub triplet-yes : AllYes (ofTriplet x)
   triplet-yes = all-yes (ofTriplet x) refl (both-yes (ofMapping (x .mapping)) (ofTriplet x) refl ok .1)
 
   in-range : Ranged (x .triplet .lower) (x .triplet .upper) (x .triplet .stride)

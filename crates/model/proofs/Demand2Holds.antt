@@ -1,4 +1,4 @@
--- Demand 2 holds of every accepted section. Assumes nothing.
+-- Demand 2 holds of every mapping that passes its questions, and of every accepted section. Assumes nothing.
 use Prim.Native.Nat.{ℕ, _/_, _%_, _≤_, _<_}
 use mathlib.Core.Bool.{true, _&&_}
 use mathlib.Core.List.{List}
@@ -11,14 +11,14 @@ use borrow.Author.Tests.{leb-true, eqb-true}
 use Rattle.numbers.specs.Search.{sum}
 use Rattle.numbers.proofs.Tests.{both-true}
 use Rattle.model.specs.Mappings.{Dealing, cyclic, genBlock, Mapping, Section}
+use Rattle.model.specs.declared.Triplet.{Triplet}
 use Rattle.model.specs.Ownership.{nat, cellUnder, fromLower, blockIn, layoutOf, cellOf, cellOwner, runOwner, runSizes, cellOwnerBy, owner}
-use Rattle.model.specs.Sections.{layout}
-use Rattle.model.specs.Questions.{eachNatural, sizesFit, firstNo, isIndex, ofMapping, ofSection}
-use Rattle.model.specs.Demand2.{Hpf2, Element, Demand2}
+use Rattle.model.specs.Questions.{eachNatural, sizesFit, firstNo, isIndex, inRange, ofMapping, ofSection}
+use Rattle.model.specs.Demand2.{Fortran95, Hpf2, Element, Demand2}
 use Rattle.model.proofs.AddressLaws.{addressed}
 use Rattle.model.proofs.CellOwners.{cell-owner-lt}
 use Rattle.model.proofs.BoundLaws.{declared-from}
-use Rattle.model.proofs.AcceptedLaws.{runs-in, cell-sits, index-is, is-index, mapping-yes, mapped, accepted}
+use Rattle.model.proofs.AcceptedLaws.{runs-in, cell-sits, index-is, is-index, ranged, mapping-yes, triplet-yes, mapped}
 use Rattle.model.proofs.RunOwners.{owner-run}
 use Rattle.model.proofs.TripletLaws.{fortran95}
 
@@ -73,13 +73,19 @@ element-of m ok j e =
       back = back;
     }
 
-pub demand2 : (x : Section) → firstNo (ofSection x) ≡ 0 → Demand2 x
-unfolding layout
-demand2 x ok =
-    let a = accepted x ok in
-    record {
-      element = element-of (x .mapping) (mapping-yes x ok);
-      each-declared = is-index (x .mapping);
-      addresses = addressed (owner (x .mapping)) (layout x .processors) (layout x .size) (owner-lt (x .mapping) (mapping-yes x ok));
-      section = fortran95 (x .triplet) (λ e. omega (arith, a .step-pos, ap natAbs e));
-    }
+pub demand2 : (m : Mapping) → firstNo (ofMapping m) ≡ 0 → Demand2 m
+demand2 m ok = record {
+  element = element-of m ok;
+  each-declared = is-index m;
+  addresses = addressed (owner m) (layoutOf m .processors) (layoutOf m .size) (owner-lt m ok);
+}
+
+pub elements-of : (x : Triplet) → inRange x ≡ true → Fortran95 x
+elements-of x e = fortran95 x (λ z. omega (arith, ranged x e .some, ap natAbs z))
+
+-- of a section
+pub section-elements : (x : Section) → firstNo (ofSection x) ≡ 0 → Fortran95 (x .triplet)
+section-elements x ok = elements-of (x .triplet) (triplet-yes x ok .0)
+
+pub section-demand2 : (x : Section) → firstNo (ofSection x) ≡ 0 → Demand2 (x .mapping) × Fortran95 (x .triplet)
+section-demand2 x ok = (demand2 (x .mapping) (mapping-yes x ok), section-elements x ok)

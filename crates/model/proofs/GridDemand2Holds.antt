@@ -1,4 +1,4 @@
--- Demand 2 holds of every accepted section of a grid. Assumes nothing.
+-- Demand 2 holds of every grid that passes its questions, and of every accepted section of one. Assumes nothing.
 use Prim.Native.Nat.{ℕ, _*_, _/_, _%_, _<_}
 use mathlib.Core.Path.{_≡_, ap, _∙_}
 use lib.IntN.{ℤ}
@@ -6,15 +6,15 @@ use Rattle.model.specs.Mappings.{Mapping}
 use Rattle.model.specs.Ownership.{fromLower, owner}
 use Rattle.model.specs.Questions.{firstNo}
 use Rattle.model.specs.Axes.{Array, arrayOf, paired, product}
-use Rattle.model.specs.Grids.{Three, GridSection, sectionsOf, mappingsIn, gridArray, numberOf, indicesOf, ofGridSection}
-use Rattle.model.specs.GridDemands.{AreIndices, rankIn, heldWith, GridElement, GridDemand2}
+use Rattle.model.specs.Grids.{Three, Grid, GridSection, mappingsOf, sectionsOf, mappingsIn, gridArray, numberOf, indicesOf, ofGrid, ofGridSection}
+use Rattle.model.specs.GridDemands.{AreIndices, rankIn, heldWith, GridElement, GridDemand2, GridSectionDemand2}
 use Rattle.model.proofs.BoundLaws.{from-declared}
 use Rattle.model.proofs.AcceptedLaws.{is-index}
 use Rattle.model.proofs.AddressLaws.{addressed}
 use Rattle.model.proofs.PairLaws.{pair-first, pair-second, pair-of, first-lt, second-lt, pair-lt}
 use Rattle.model.proofs.ProductLaws.{Dealt, product-dealt, owner-pair, rank-pair}
-use Rattle.model.proofs.Demand2Holds.{owner-lt, element-of, demand2}
-use Rattle.model.proofs.GridAccepted.{Mapped, first-yes, second-yes, third-yes, sections-mapped}
+use Rattle.model.proofs.Demand2Holds.{owner-lt, element-of, section-elements}
+use Rattle.model.proofs.GridAccepted.{Mapped, mappings-yes, first-yes, second-yes, third-yes, sections-mapped}
 
 module _ (m : Three Mapping) where
   abbrev a : Array
@@ -85,15 +85,20 @@ module _ (m : Three Mapping) where
               (rank-pair b c (owner-lt (m .second) (ok .second)) t u (y .index));
         }
 
-pub grid-demand2 : (x : GridSection) → firstNo (ofGridSection x) ≡ 0 → GridDemand2 x
-grid-demand2 x ok =
-    let m : Three Mapping = mappingsIn (sectionsOf x) in
-    let mapped : Mapped m = sections-mapped x ok in
-    record {
-      element = grid-element m mapped;
-      each-declared = λ i h. (are-indices m i h, number-of m i);
-      addresses = addressed (gridArray m .owner) (gridArray m .processors) (gridArray m .size) (grid-dealt m mapped);
-      first = demand2 (sectionsOf x .first) (first-yes x ok) .section;
-      second = demand2 (sectionsOf x .second) (second-yes x ok) .section;
-      third = demand2 (sectionsOf x .third) (third-yes x ok) .section;
+    mapped-demand2 : GridDemand2 m
+    mapped-demand2 = record {
+      element = grid-element;
+      each-declared = λ i h. (are-indices i h, number-of i);
+      addresses = addressed (gridArray m .owner) (gridArray m .processors) (gridArray m .size) grid-dealt;
     }
+
+pub grid-demand2 : (g : Grid) → firstNo (ofGrid g) ≡ 0 → GridDemand2 (mappingsOf g)
+grid-demand2 g ok = mapped-demand2 (mappingsOf g) (mappings-yes g ok)
+
+pub grid-section-demand2 : (x : GridSection) → firstNo (ofGridSection x) ≡ 0 → GridSectionDemand2 x
+grid-section-demand2 x ok = record {
+  array = mapped-demand2 (mappingsIn (sectionsOf x)) (sections-mapped x ok);
+  first = section-elements (sectionsOf x .first) (first-yes x ok);
+  second = section-elements (sectionsOf x .second) (second-yes x ok);
+  third = section-elements (sectionsOf x .third) (third-yes x ok);
+}

@@ -12,6 +12,8 @@ pub mod TripletLaws
 pub mod BoundLaws
 pub mod QuestionLaws
 pub mod AcceptedLaws
+pub mod CaseLaws
+pub mod CasesHold
 pub mod RunOwners
 pub mod Demand2Holds
 pub mod AnsweredLaws
@@ -25,6 +27,7 @@ pub mod StepSearch
 pub mod StepEnds
 pub mod StepLaws
 pub mod WalkLaws
+pub mod SmallestHold
 pub mod WalkTheorem
 pub mod RunWalks
 pub mod AxisLaws
@@ -64,6 +67,7 @@ pub mod GridSizes
 -- checkpoints, and runs
 pub mod StorageLaws
 pub mod OneRun
+pub mod DirectAddresses
 pub mod CopyLaws
 pub mod CheckpointsHold
 -- every call

@@ -17,11 +17,11 @@ use Rattle.model.specs.Sections.{layout, count, cell}
 use Rattle.model.specs.Steps.{stepsBy, Going, fits, goOn, spread, upward, cyclicSteps, cyclicGoing, isPast, nextBy, cyclicNext, runSteps, runNext}
 use Rattle.model.specs.Steps.{stepsDealt, stepsOf, costDealt, cost, nextDealt, nextPlace}
 use Rattle.model.specs.Questions.{firstNo, ofSection}
+use Rattle.model.specs.Smallest.{Multiple}
 use Rattle.model.specs.Axes.{axisOf, placesOn}
 use Rattle.model.specs.Demand3.{apart, IsStep}
 use Rattle.model.proofs.Rests.{le-or-lt}
 use Rattle.model.proofs.SectionLaws.{cells-apart, spread-pos}
-use Rattle.model.proofs.StepLaws.{Multiple}
 use Rattle.model.proofs.WalkTheorem.{going-nearest}
 use Rattle.model.proofs.InTurnLaws.{leads-next}
 use Rattle.model.proofs.AxisLaws.{places-lead, at-place}

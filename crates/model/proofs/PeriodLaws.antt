@@ -42,7 +42,7 @@ place-past u N h = rw (le-ltb u N h)
 
 -- ---- whole courses on, owner and column are the same
 module _ (l : Layout) (p-pos : 0 < l .processors) (k-pos : 0 < l .block) (d : ℕ) where
-  owner-again : (c : ℕ) → cellOwner l (c + d * courseCells l) ≡ cellOwner l c
+  pub owner-again : (c : ℕ) → cellOwner l (c + d * courseCells l) ≡ cellOwner l c
   owner-again c =
       owner-rest l p-pos k-pos (c + d * courseCells l) ∙ ap (λ (z : ℕ). z / l .block) (add-mul-mod-self-right c d (courseCells l))
       ∙ sym (owner-rest l p-pos k-pos c)

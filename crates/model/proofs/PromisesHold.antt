@@ -9,14 +9,18 @@ use Rattle.model.specs.Sections.{layout, count}
 use Rattle.model.specs.Steps.{spread, cyclicSteps, runSteps, stepsDealt, stepsOf}
 use Rattle.model.specs.Promises.{Accepts, Balanced, Promises}
 use Rattle.model.proofs.AcceptedLaws.{accepted}
+use Rattle.model.proofs.CaseLaws.{by-cases}
+use Rattle.model.proofs.CasesHold.{cases-hold}
 use Rattle.model.proofs.SectionLaws.{spread-pos}
 use Rattle.model.proofs.StepLaws.{step-cases, determinant, never-both}
 use Rattle.model.proofs.WalkLaws.{course}
+use Rattle.model.proofs.SmallestHold.{smallest-steps}
 use Rattle.model.proofs.PeriodLaws.{repeating}
+use Rattle.model.proofs.DirectAddresses.{direct-address}
 use Rattle.model.proofs.AnswerLaws.{there-and-back, back-and-there}
 use Rattle.model.proofs.ByteFillsHold.{bytes-stay}
 use Rattle.model.proofs.Demand1Holds.{demand1}
-use Rattle.model.proofs.Demand2Holds.{demand2}
+use Rattle.model.proofs.Demand2Holds.{demand2, elements-of, section-demand2}
 use Rattle.model.proofs.Demand3Holds.{demand3, demand3-of-bytes}
 use Rattle.model.proofs.TransferLaws.{assigned}
 use Rattle.model.proofs.CheckpointsHold.{checkpoints}
@@ -27,7 +31,7 @@ use Rattle.model.proofs.GenBlockRowsHold.{rows-hold}
 use Rattle.model.proofs.GridRowsHold.{grid-rows-hold, grid-refusals-hold, section-refusals-hold}
 use Rattle.model.proofs.GridFillCalls.{grid-bytes-stay}
 use Rattle.model.proofs.GridDemand1Holds.{grid-demand1}
-use Rattle.model.proofs.GridDemand2Holds.{grid-demand2}
+use Rattle.model.proofs.GridDemand2Holds.{grid-demand2, grid-section-demand2}
 use Rattle.model.proofs.GridAnswers.{grid-there-and-back, grid-back-and-there}
 use Rattle.model.proofs.GridDemand3Holds.{grid-demand3, grid-demand3-of-bytes}
 use Rattle.model.proofs.RankOneHolds.{as-rank-one}
@@ -61,11 +65,17 @@ pub promises : Promises
 promises = record {
   answers = demand1;
   owners = demand2;
+  elements = elements-of;
+  sections = section-demand2;
   there-and-back = there-and-back;
   back-and-there = back-and-there;
+  direct-addresses = direct-address;
   bounds = shifted;
   without-bounds = as-document-01;
+  cases = by-cases;
+  cases-by-hand = cases-hold;
   steps = balanced;
+  smallest-steps = λ x ok k. smallest-steps x ok;
   repeats = λ x ok k. repeating x ok;
   word-fills = demand3;
   byte-fills = demand3-of-bytes;
@@ -74,6 +84,7 @@ promises = record {
   checkpoints = checkpoints;
   grid-answers = grid-demand1;
   grid-owners = grid-demand2;
+  grid-sections = grid-section-demand2;
   grid-there-and-back = grid-there-and-back;
   grid-back-and-there = grid-back-and-there;
   grid-word-fills = grid-demand3;

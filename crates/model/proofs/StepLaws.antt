@@ -15,6 +15,7 @@ use Rattle.model.specs.declared.Step.{Step}
 use Rattle.model.specs.declared.Steps.{Steps}
 use Rattle.model.specs.declared.Steps.the-variants.{NoStep, OneStep, TwoSteps}
 use Rattle.model.specs.Steps.{processorIndex, returnIndex, processorStep, returnStep, oneStep, stepsBy}
+use Rattle.model.specs.Smallest.{Multiple}
 use Rattle.model.proofs.Rests.{Course, sum-mod, rests, Least, Forward, Backward, Fits, not-both}
 use Rattle.model.proofs.Turns.{End, two, one, ended}
 use Rattle.model.proofs.StepEnds.{
@@ -99,12 +100,6 @@ module _ {M k S : ℕ} (h : Course M k S) where
       go (single {i} l s) = (i, s)
 
 -- ---- by cells, courses and column moves
-
--- x cells are a multiple of S, and not 0
-pub record Multiple (S x : ℕ) : Type 0 where
-  pub index : ℕ
-  pub some : 0 < index
-  pub cells : x ≡ index * S
 
 -- "the smallest multiple of S of the form c·M + y", y from 1 to k - 1
 pub record ProcessorLaw (M k S : ℕ) (r : Step) : Type 0 where

@@ -23,10 +23,11 @@ use Rattle.model.specs.Steps.{
   tryBoth,
   goOn,
 }
+use Rattle.model.specs.Smallest.{Multiple}
 use Rattle.model.proofs.SectionLaws.{Moved}
 use Rattle.model.proofs.Rests.{le-or-lt, Course, Rests, rests, Fits, walk-forward, walk-back, both-fit, walk-both}
 use Rattle.model.proofs.CellOwners.{facing, block-le, column-lt, owner-fits, fits-owner}
-use Rattle.model.proofs.StepLaws.{Paired, Either, paired, single, either, Multiple, OneLaw, one-law}
+use Rattle.model.proofs.StepLaws.{Paired, Either, paired, single, either, OneLaw, one-law}
 
 -- ---- over columns
 

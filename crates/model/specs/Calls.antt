@@ -1,8 +1,8 @@
 -- What each call answers: the full result, or the number of the first question that is answered no with every other field 0.
 -- Definitions only.
-use Prim.Native.Nat.{ℕ}
+use Prim.Native.Nat.{ℕ, _<_}
 use mathlib.Core.Bool.{cond}
-use mathlib.Core.List.{List, _++_}
+use mathlib.Core.List.{List, [], _∷_, _++_}
 use lib.Dec.{eqb}
 use lib.IntN.{ℤ, pos, negℤ}
 use Rattle.model.specs.Mappings.{Mapping, Section}
@@ -127,3 +127,10 @@ requestOf c = record { refusal = firstNo (ofFill c); place = nat (c .place); quo
 
 unfoldable pub fill : FillCall → Outcome
 fill c = answer (walkOf (c .section)) (requestOf c)
+
+-- ---- answers of the code that are enums
+
+-- the refusals that such an answer holds, by their numbers, are told from a full answer: each is above 0
+abbrev pub ToldApart : List ℕ → Type 0
+ToldApart [] = Unit {0}
+ToldApart (e ∷ es) = (0 < e) × ToldApart es

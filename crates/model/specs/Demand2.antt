@@ -1,5 +1,5 @@
 -- Demand 2 as a statement, a field for each sentence. The part about addresses is over any owner of indices.
-use Prim.Native.Nat.{ℕ, _+_, _*_, _/_, _%_, _≤_, _<_}
+use Prim.Native.Nat.{ℕ, _+_, _/_, _%_, _≤_, _<_}
 use mathlib.Core.Path.{_≡_}
 use mathlib.Core.Logic.{_↔_}
 use mathlib.Core.Bool.{Bool, true}
@@ -7,10 +7,10 @@ use mathlib.Core.List.{List}
 use lib.IntN.{ℤ, pos, negsuc, _+ℤ_, _-ℤ_, _*ℤ_}
 use lib.ListN.{length, getD}
 use lib.Signed.{leZ}
-use Rattle.model.specs.Mappings.{Dealing, cyclic, genBlock, Mapping, Section}
+use Rattle.model.specs.Mappings.{Dealing, cyclic, genBlock, Mapping}
 use Rattle.model.specs.declared.Triplet.{Triplet}
 use Rattle.model.specs.Ownership.{nat, fromLower, declaredIndex, layoutOf, runStart, runSizes, owner, rank, elementsOf, held, backTo}
-use Rattle.model.specs.Sections.{layout, countOf, elementAt}
+use Rattle.model.specs.Sections.{countOf, elementAt}
 use Rattle.model.specs.Questions.{isIndex}
 
 -- "without a gap": each number from 0 to one below the processor's number of elements is the address of one of its elements,
@@ -65,9 +65,8 @@ pub record Element (m : Mapping) (j : ℤ) : Type 0 where
   pub index : fromLower m j < layoutOf m .size
   pub back : declaredIndex m (fromLower m j) ≡ j
 
--- Demand 2, of a section that every question about it passed
-pub record Demand2 (x : Section) : Type 0 where
-  pub element : (j : ℤ) → isIndex (x .mapping) j ≡ true → Element (x .mapping) j
-  pub each-declared : (i : ℕ) → i < layout x .size → isIndex (x .mapping) (declaredIndex (x .mapping) i) ≡ true
-  pub addresses : Addressed (owner (x .mapping)) (layout x .processors) (layout x .size)
-  pub section : Fortran95 (x .triplet)
+-- Demand 2, of a mapping that passes its questions
+pub record Demand2 (m : Mapping) : Type 0 where
+  pub element : (j : ℤ) → isIndex m j ≡ true → Element m j
+  pub each-declared : (i : ℕ) → i < layoutOf m .size → isIndex m (declaredIndex m i) ≡ true
+  pub addresses : Addressed (owner m) (layoutOf m .processors) (layoutOf m .size)

@@ -105,15 +105,15 @@ pub record GridElement (m : Three Mapping) (j : Three ℤ) : Type 0 where
       ≡ paired (heldWith (m .first) (j .first)) (rankIn (m .first) (j .first))
       (paired (heldWith (m .second) (j .second)) (rankIn (m .second) (j .second)) (rankIn (m .third) (j .third)))
 
--- Demand 2, of a section of a grid that every question about it passed
-pub record GridDemand2 (x : GridSection) : Type 0 where
-  pub element : (j : Three ℤ) → AreIndices (mappingsIn (sectionsOf x)) j → GridElement (mappingsIn (sectionsOf x)) j
-  pub each-declared : (i : ℕ) → i < gridArray (mappingsIn (sectionsOf x)) .size
-      → AreIndices (mappingsIn (sectionsOf x)) (indicesOf (mappingsIn (sectionsOf x)) i)
-      × (numberOf (mappingsIn (sectionsOf x)) (indicesOf (mappingsIn (sectionsOf x)) i) ≡ i)
-  pub addresses :
-      Addressed (gridArray (mappingsIn (sectionsOf x)) .owner) (gridArray (mappingsIn (sectionsOf x)) .processors)
-      (gridArray (mappingsIn (sectionsOf x)) .size)
+-- Demand 2, of the mappings of a grid that passes its questions
+pub record GridDemand2 (m : Three Mapping) : Type 0 where
+  pub element : (j : Three ℤ) → AreIndices m j → GridElement m j
+  pub each-declared : (i : ℕ) → i < gridArray m .size → AreIndices m (indicesOf m i) × (numberOf m (indicesOf m i) ≡ i)
+  pub addresses : Addressed (gridArray m .owner) (gridArray m .processors) (gridArray m .size)
+
+-- and of an accepted section of a grid: that of its array, and the elements of each dimension's triplet
+pub record GridSectionDemand2 (x : GridSection) : Type 0 where
+  pub array : GridDemand2 (mappingsIn (sectionsOf x))
   pub first : Fortran95 (sectionsOf x .first .triplet)
   pub second : Fortran95 (sectionsOf x .second .triplet)
   pub third : Fortran95 (sectionsOf x .third .triplet)

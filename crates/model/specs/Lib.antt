@@ -3,9 +3,12 @@ pub mod Mappings
 pub mod Ownership
 pub mod Sections
 pub mod Steps
+pub mod Smallest
 pub mod Periods
 pub mod Filling
 pub mod Questions
+pub mod Cases
+pub mod CasesByHand
 pub mod Sized
 pub mod Axes
 pub mod Grids

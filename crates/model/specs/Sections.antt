@@ -10,6 +10,10 @@ use Rattle.model.specs.declared.Layout.{Layout}
 use Rattle.model.specs.Mappings.{Section}
 use Rattle.model.specs.Ownership.{nat, fromLower, layoutOf, cellOf, owner, owns, rank}
 
+-- l:h:s as a triplet
+abbrev pub tripletOf : ℤ → ℤ → ℤ → Triplet
+tripletOf l h s = record { lower = l; upper = h; stride = s }
+
 -- "count": max(0, (h − l + s) / s truncated towards zero)
 unfoldable pub countOf : Triplet → ℕ
 countOf x = nat (quotZ (x .upper -ℤ x .lower +ℤ x .stride) (x .stride))

@@ -2,6 +2,17 @@
 // in specs/. The demands are stated in specs/ too; what follows from the definitions is
 // proved in proofs/. Nothing here runs.
 
+// Limits that several questions and loops name: the size of a declared number, of a count and of a
+// list's entry; the processors; the tries that a fill asks for before it goes on, and the largest
+// quota.
+pub const MOST: i64 = 2147483647;
+
+pub const MOST_PROCESSORS: i64 = 1024;
+
+pub const LEAST_TRIES: u64 = 3;
+
+pub const MOST_TRIES: u64 = 1000000;
+
 // An element's index, a cell's number, a local address and a section position, each
 // counted from 0: four types, so that none is taken for another.
 pub struct Index(pub u64);
@@ -55,6 +66,14 @@ pub struct Triplet {
     pub lower: i64,
     pub upper: i64,
     pub stride: i64,
+}
+
+// How the Fortran text reads l:h:s: forward or backward over the distance from l to h, by the
+// size of s; or empty, where h lies the other way.
+pub enum Case {
+    Forward { distance: u64, stride: u64 },
+    Backward { distance: u64, stride: u64 },
+    Empty,
 }
 
 // A section of an array.

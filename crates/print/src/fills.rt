@@ -9,15 +9,13 @@ ghost use Rattle.model.specs.Steps.{cost};
 ghost use Rattle.print.specs.Ahead.{listed, Owner, restOf, StandsIn, Went};
 use fill::ready::Start;
 use fill::words::fill_from;
+use model::MOST_TRIES;
 use model::Position;
 use model::Section;
 use section::elements::elements_of;
 use section::place::place_of;
 use section::questions::Strided;
 use section::shares::Extent;
-
-// The largest quota.
-const QUOTA: u64 = 1000000;
 
 // An accepted section, of a cyclic template: as the sheet has it, and on natural numbers.
 pub struct Listed {
@@ -73,7 +71,7 @@ pub fn fill_on(x: Listed, q: u64, rest: Rest, list: &mut [u32]) -> Gone
         processor: q,
         extent: Extent::Blocks,
         place: from,
-        quota: QUOTA,
+        quota: MOST_TRIES,
     };
     let room = room_for(left, list.len());
     let r = fill_from(start, &mut list[..room]);

@@ -3,7 +3,6 @@ pub mod StridedLaws
 -- the count
 pub mod Differences
 pub mod CaseLaws
-pub mod CasesHold
 -- the questions and what they lead to
 pub mod TripletAnswers
 pub mod StridedSections

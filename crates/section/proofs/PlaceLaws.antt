@@ -61,7 +61,7 @@ place-none w q e =
 -- its course, its first cell and its spread
 pub record Worked (w : Strided) (m x S : ℕ) : Type 0 where
   pub course : m ≡ courseCells (w .layout)
-  pub first : x ≡ cellOf (w .layout) (w .first)
+  pub first : x ≡ cellOf (w .layout) (w .first .0)
   pub spread : S ≡ w .layout .stride * w .stride
 
 module _ {w : Strided} {m x S : ℕ} (r : Worked w m x S) (b : Bounded w) where
@@ -91,16 +91,13 @@ module _ {w : Strided} {m x S : ℕ} (r : Worked w m x S) (b : Bounded w) where
       (subst (λ (n : ℕ). Sum m (cellAt w t % m) (t * S % m) (n % m)) e (sum-mod m (cellAt w t) (t * S) m-pos)) in
       sym (mirror m (x % m) (t * (S % m)) (cellAt w t % m) (mod-lt x m-pos) far (mod-lt (cellAt w t) m-pos))
 
+  -- a column of a course and a block in it
+  pub block-in : {c low : ℕ} → c < m → low + k ≤ m → Block c (S % m) m low k
+  block-in column inside = record { column = column; rest = mod-lt S m-pos; some = k-pos; inside = inside; small = m-high }
+
   module _ (q : ℕ) (own : q < w .layout .processors) where
     pub room : q * k + k ≤ m
     room = rw (r .course) (block-inside (w .layout) (b .sized) q own)
-
-    pub block-up : Block (x % m) (S % m) m (q * k) k
-    block-up = record { column = mod-lt x m-pos; rest = mod-lt S m-pos; some = k-pos; inside = room; small = m-high }
-
-    pub block-down : Block (m - 1 - x % m) (S % m) m (m - (q * k + k)) k
-    block-down =
-        record { column = omega (arith, m-pos); rest = mod-lt S m-pos; some = k-pos; inside = omega (arith, room); small = m-high }
 
     -- the owner is q just where the column is in its block
     owned-column : (t : ℕ) → ownedAt w q t ≡ within (q * k) (q * k + (k - 1)) (cellAt w t % m)

@@ -122,7 +122,7 @@ module _ (x : Section) (ok : firstNo (ofSection x) ≡ 0) {sizes : List ℤ} {le
   runs = runSizes sizes
 
   abbrev run : Run
-  run = record { start = runStart runs q; end = runStart runs (suc q) }
+  run = record { start = record { 0 = runStart runs q }; end = record { 0 = runStart runs (suc q) } }
 
   -- the owner at each position
   abbrev at : ℕ → ℕ
@@ -140,7 +140,7 @@ module _ (x : Section) (ok : firstNo (ofSection x) ≡ 0) {sizes : List ℤ} {le
   cell-in t h = omega (arith, cell-inside w (bounded x ok) t h, covers)
 
   -- the positions whose elements the processor owns
-  pub one-span : OneRun at (count x) q (spanIn w run .low) (spanIn w run .high)
+  pub one-span : OneRun at (count x) q (spanIn w run .low .0) (spanIn w run .high .0)
   unfolding stridedOf
   one-span =
       let rises : runStart runs q ≤ runStart runs (suc q) = omega (arith, next-start runs q) in
@@ -164,22 +164,22 @@ module _ (x : Section) (ok : firstNo (ofSection x) ≡ 0) {sizes : List ℤ} {le
   unfolding ownsAt owns
   span-owned = run-owned one-span
 
-  span-first : firstPlace x q ≡ cond (ltb (spanIn w run .low) (spanIn w run .high)) (spanIn w run .low) (count x)
+  span-first : firstPlace x q ≡ cond (ltb (spanIn w run .low .0) (spanIn w run .high .0)) (spanIn w run .low .0) (count x)
   unfolding firstPlace places ownsAt owns
   span-first = run-first one-span
 
-  span-all : tally (ownsAt x q) (count x) ≡ spanIn w run .high - spanIn w run .low
+  span-all : tally (ownsAt x q) (count x) ≡ spanIn w run .high .0 - spanIn w run .low .0
   unfolding ownsAt owns held
   span-all = run-all one-span
 
   span-next : (t : ℕ) → t < count x → ownsAt x q t ≡ true
-      → runNext at (count x) t ≡ cond (ltb (suc t) (spanIn w run .high)) (suc t) (count x)
+      → runNext at (count x) t ≡ cond (ltb (suc t) (spanIn w run .high .0)) (suc t) (count x)
   unfolding ownsAt
   span-next t h e = run-next one-span t h (of-owns (owner (x .mapping)) q (index x t) e)
 
   -- the processor's elements of the array
   based : (t : ℕ) → t < count x → ownsAt x q t ≡ true
-      → (spanIn w run .base ≤ indexAt w t) × (address x t ≡ indexAt w t - spanIn w run .base)
+      → (spanIn w run .base .0 ≤ indexAt w t) × (address x t ≡ indexAt w t - spanIn w run .base .0)
   unfolding address ownsAt owner layout stridedOf
   based t h e =
       let l = layout x in
@@ -259,7 +259,7 @@ pub record RunDealt (x : Section) (r : Span) : Type 0 where
   pub sizes : List ℤ
   pub left : ℕ
   pub dealt : x .mapping .dealing ≡ genBlock sizes left
-  pub inside : r .high ≤ count x
+  pub inside : r .high .0 ≤ count x
 
 pub run-dealt : (x : Section) → firstNo (ofSection x) ≡ 0 → (q : ℕ) (r : Span) → extentIn (stridedOf x) (partIn (x .mapping .dealing) q) ≡ extent.Run r → RunDealt x r
 run-dealt x ok q r e = go (x .mapping .dealing) refl e
@@ -267,8 +267,8 @@ run-dealt x ok q r e = go (x .mapping .dealing) refl e
     go : (z : Dealing) → x .mapping .dealing ≡ z → extentIn (stridedOf x) (partIn z q) ≡ extent.Run r → RunDealt x r
     go (cyclic k) d f = absurd (let n : _≡_ {A = ℕ} 0 1 = cc in omega arith)
     go (genBlock sizes left) d f =
-        let same : spanIn (stridedOf x) (record { start = runStart (runSizes sizes) q; end = runStart (runSizes sizes) (suc q) }) ≡ r = cc in
-        record { sizes = sizes; left = left; dealt = d; inside = subst (λ (s : Span). s .high ≤ count x) same (one-span x ok d q .inside) }
+        let same : spanIn (stridedOf x) (run x ok d q) ≡ r = cc in
+        record { sizes = sizes; left = left; dealt = d; inside = subst (λ (s : Span). s .high .0 ≤ count x) same (one-span x ok d q .inside) }
 
 pub blocks-dealt : (x : Section) (q : ℕ) → extentIn (stridedOf x) (partIn (x .mapping .dealing) q) ≡ extent.Blocks
     → (k : ℤ) × (x .mapping .dealing ≡ cyclic k)

@@ -31,7 +31,7 @@ module _ (w : Strided) where
   S = w .layout .stride * w .stride
 
   -- the indices and the cells, going up
-  pub indices-rise : w .upward ≡ true → (t : ℕ) → indexAt w t ≡ w .first + t * w .stride
+  pub indices-rise : w .upward ≡ true → (t : ℕ) → indexAt w t ≡ w .first .0 + t * w .stride
   unfolding indexAt
   indices-rise up t = rw up
 
@@ -39,26 +39,26 @@ module _ (w : Strided) where
   unfolding cellAt indexAt cellOf
   cells-rise up t = rw up (omega arith)
 
-  pub first-index : indexAt w 0 ≡ w .first
+  pub first-index : indexAt w 0 ≡ w .first .0
   unfolding indexAt
   first-index = go (w .upward)
     where
-      go : (b : Bool) → moved b (w .first) (0 * w .stride) ≡ w .first
+      go : (b : Bool) → moved b (w .first .0) (0 * w .stride) ≡ w .first .0
       go true = omega arith
       go false = omega arith
 
-  pub first-cell : cellAt w 0 ≡ cellOf (w .layout) (w .first)
+  pub first-cell : cellAt w 0 ≡ cellOf (w .layout) (w .first .0)
   unfolding cellAt
   first-cell = ap (cellOf (w .layout)) first-index
 
   module _ (b : Bounded w) where
     -- going down
-    below-first : w .upward ≡ false → (t : ℕ) → t < w .count → t * w .stride ≤ w .first
+    below-first : w .upward ≡ false → (t : ℕ) → t < w .count → t * w .stride ≤ w .first .0
     below-first down t h =
         let far : t * w .stride ≤ (w .count - 1) * w .stride = mul-le-mul-right (w .stride) (omega arith) in
         omega (arith, b .falls down (omega arith))
 
-    pub indices-fall : w .upward ≡ false → (t : ℕ) → t < w .count → w .first ≡ indexAt w t + t * w .stride
+    pub indices-fall : w .upward ≡ false → (t : ℕ) → t < w .count → w .first .0 ≡ indexAt w t + t * w .stride
     unfolding indexAt
     indices-fall down t h = rw down (omega (arith, below-first down t h))
 

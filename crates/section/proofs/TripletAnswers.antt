@@ -12,14 +12,14 @@ use Rattle.numbers.proofs.Signed.{size-add, size-sub, size-quot}
 use Rattle.model.specs.declared.Layout.{Layout}
 use Rattle.model.specs.Mappings.{Section}
 use Rattle.model.specs.Ownership.{nat, fromLower}
-use Rattle.model.specs.Sections.{countOf, elementAt, layout, count, index}
+use Rattle.model.specs.Sections.{tripletOf, countOf, elementAt, layout, count, index}
 use Rattle.model.specs.Steps.{upward}
 use Rattle.model.specs.Questions.{firstNo, isBelow, inRange, isIndex, endsFit, ofMapping, ofTriplet}
-use Rattle.model.proofs.BoundLaws.{swapped, index-from}
+use Rattle.model.proofs.BoundLaws.{index-from}
 use Rattle.model.proofs.QuestionLaws.{all-yes, asks-on}
 use Rattle.model.proofs.AcceptedLaws.{Ranged, ranged, whole-mapping}
 use Rattle.section.specs.declared.questions.Asked.the-variants.{By, Refused}
-use Rattle.section.specs.Strides.{tripletOf, endsIn, stridedOf}
+use Rattle.section.specs.Strides.{endsIn, stridedOf}
 use Rattle.section.specs.Answers.{askedBy, stridedIn, askedIn, askedOf}
 
 nat-le : (z : ℤ) → nat z ≤ natAbs z
@@ -62,11 +62,11 @@ module _ (m : Layout) (lower l h s : ℤ) where
   range-refused e = rw e
 
   module _ (ok : inRange (tripletOf l h s) ≡ true) where
-    pub ends-refused : endsIn (m .size) (l -ℤ lower) s (countOf (tripletOf l h s)) ≡ false → Refused 7 ≡ askedIn m lower l h s
+    pub ends-refused : endsIn (m .size) lower l s (countOf (tripletOf l h s)) ≡ false → Refused 7 ≡ askedIn m lower l h s
     unfolding askedIn
     ends-refused e = rw (ok, e)
 
-    pub triplet-accepted : endsIn (m .size) (l -ℤ lower) s (countOf (tripletOf l h s)) ≡ true
+    pub triplet-accepted : endsIn (m .size) lower l s (countOf (tripletOf l h s)) ≡ true
         → By (stridedIn m lower l h s) ≡ askedIn m lower l h s
     unfolding askedIn
     triplet-accepted e = rw (ok, e)
@@ -79,25 +79,23 @@ module _ (x : Section) (ok : firstNo (ofMapping (x .mapping)) ≡ 0) where
   abbrev s : ℤ
   s = x .triplet .stride
 
-  index-below : (z : ℤ) → isIndex (x .mapping) (l +ℤ z) ≡ isBelow (pos (layout x .size)) (l -ℤ x .mapping .lower +ℤ z)
+  index-below : (j : ℤ) → isIndex (x .mapping) j ≡ isBelow (pos (layout x .size)) (j -ℤ x .mapping .lower)
   unfolding layout
-  index-below z =
-      index-from (x .mapping) (l +ℤ z)
-      ∙ (λ i. isBelow (whole-mapping (x .mapping) ok .size i) (swapped l (x .mapping .lower) z i))
+  index-below j = index-from (x .mapping) j ∙ (λ i. isBelow (whole-mapping (x .mapping) ok .size i) (j -ℤ x .mapping .lower))
 
-  ends-same : endsFit x ≡ endsIn (layout x .size) (l -ℤ x .mapping .lower) s (count x)
+  ends-same : endsFit x ≡ endsIn (layout x .size) (x .mapping .lower) l s (count x)
   unfolding endsFit elementAt
   ends-same =
       let first : isIndex (x .mapping) (l +ℤ pos 0 *ℤ s) ≡ isBelow (pos (layout x .size)) (l -ℤ x .mapping .lower) =
-      index-below (pos 0 *ℤ s) ∙ ap (isBelow (pos (layout x .size))) (first-element (l -ℤ x .mapping .lower) s) in
-      λ i. eqb (count x) 0 || (first i && index-below (pos (count x - 1) *ℤ s) i)
+      ap (isIndex (x .mapping)) (first-element l s) ∙ index-below l in
+      λ i. eqb (count x) 0 || (first i && index-below (l +ℤ pos (count x - 1) *ℤ s) i)
 
   strided-same : stridedIn (layout x) (x .mapping .lower) l (x .triplet .upper) s ≡ stridedOf x
   unfolding stridedOf count index elementAt fromLower upward
   strided-same =
       let first : nat (l -ℤ x .mapping .lower) ≡ nat (l +ℤ pos 0 *ℤ s -ℤ x .mapping .lower) =
       ap (λ (z : ℤ). nat (z -ℤ x .mapping .lower)) (sym (first-element l s)) in
-      λ i. record { layout = layout x; count = count x; first = first i; stride = natAbs s; upward = up-sign s i }
+      λ i. record { layout = layout x; count = count x; first = record { 0 = first i }; stride = natAbs s; upward = up-sign s i }
 
   decided : (ranged ends : Bool) → cond ranged (cond ends (By (stridedOf x)) (Refused 7)) (Refused 6) ≡ askedBy x (cond ranged (cond ends 0 7) 6)
   decided true true = refl

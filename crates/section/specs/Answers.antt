@@ -1,6 +1,7 @@
 -- The answers of this crate, each case read as document 01's numbers. Definitions only.
 use Prim.Native.Nat.{ℕ, _≤_, _<_}
 use mathlib.Core.Bool.{Bool, true, false, cond}
+use mathlib.Core.List.{List, [], _∷_}
 use lib.Dec.{eqb}
 use lib.IntN.{ℤ, pos, natAbs, _-ℤ_}
 use lib.Signed.{leZ}
@@ -10,7 +11,7 @@ use Rattle.model.specs.declared.Step.{Step}
 use Rattle.model.specs.declared.Steps.{Steps}
 use Rattle.model.specs.declared.Steps.the-variants.{NoStep, OneStep, TwoSteps}
 use Rattle.model.specs.Ownership.{nat}
-use Rattle.model.specs.Sections.{countOf}
+use Rattle.model.specs.Sections.{tripletOf, countOf}
 use Rattle.model.specs.Questions.{isBelow, inRange, firstNo, ofSection}
 use Rattle.model.specs.Calls.{StepReport, noReport, forward, backward, SectionStepsAnswer, PlaceAnswer}
 use Rattle.mapping.specs.Parts.{partIn}
@@ -22,7 +23,7 @@ use Rattle.section.specs.declared.report.SectionSteps.{SectionSteps}
 use Rattle.section.specs.declared.report.SectionSteps.the-variants as steps
 use Rattle.section.specs.declared.place.Placed.{Placed}
 use Rattle.section.specs.declared.place.Placed.the-variants as placed
-use Rattle.section.specs.Strides.{tripletOf, endsIn, stridedOf, Bounded}
+use Rattle.section.specs.Strides.{endsIn, stridedOf, Bounded}
 use Rattle.section.specs.Shares.{shareIn, placeBy}
 
 -- the section if its questions, of which e is the first that is answered no, passed
@@ -34,7 +35,7 @@ abbrev pub stridedIn : Layout → ℤ → ℤ → ℤ → ℤ → Strided
 stridedIn m lower l h s = record {
   layout = m;
   count = countOf (tripletOf l h s);
-  first = nat (l -ℤ lower);
+  first = record { 0 = nat (l -ℤ lower) };
   stride = natAbs s;
   upward = leZ (pos 0) s;
 }
@@ -42,7 +43,7 @@ stridedIn m lower l h s = record {
 -- questions 6 and 7 of it, and 1 to 7 of a section
 unfoldable pub askedIn : Layout → ℤ → ℤ → ℤ → ℤ → Asked
 askedIn m lower l h s =
-    let ends = endsIn (m .size) (l -ℤ lower) s (countOf (tripletOf l h s)) in
+    let ends = endsIn (m .size) lower l s (countOf (tripletOf l h s)) in
     cond (inRange (tripletOf l h s)) (cond ends (By (stridedIn m lower l h s)) (Refused 7)) (Refused 6)
 
 unfoldable pub askedOf : Section → Asked
@@ -67,6 +68,13 @@ stepsAs (steps.OneStep n r) = record { refusal = 0; count = n; steps = 1; first 
 stepsAs (steps.TwoSteps n r w) = record { refusal = 0; count = n; steps = 2; first = stepAs r; second = stepAs w }
 stepsAs (steps.Refused e) = noSteps e
 
+-- the numbers of the refusals that it holds, if any
+abbrev pub stepsRefusals : SectionSteps → List ℕ
+stepsRefusals (steps.NoStep n) = []
+stepsRefusals (steps.OneStep n r) = []
+stepsRefusals (steps.TwoSteps n r w) = []
+stepsRefusals (steps.Refused e) = e ∷ []
+
 -- a step that goes back, or on
 abbrev pub reportBy : Bool → Step → StepReport
 reportBy true = backward
@@ -86,6 +94,10 @@ noPlace e = record { refusal = e; place = 0 }
 abbrev pub placedAs : Placed → PlaceAnswer
 placedAs (placed.At t) = record { refusal = 0; place = t .0 }
 placedAs (placed.Refused e) = noPlace e
+
+abbrev pub placedRefusals : Placed → List ℕ
+placedRefusals (placed.At t) = []
+placedRefusals (placed.Refused e) = e ∷ []
 
 -- what is left to ask of an accepted section, and the answer
 unfoldable pub firstPlaceIn : Strided → Dealing → ℤ → PlaceAnswer

@@ -32,9 +32,9 @@ positionsTo w c =
 -- the positions on the cells of a run
 abbrev pub spanIn : Strided → Run → Span
 spanIn w r = record {
-  low = positionsTo w (cond (w .upward) (r .start) (r .end));
-  high = positionsTo w (cond (w .upward) (r .end) (r .start));
-  base = indexFrom (w .layout) (r .start);
+  low = record { 0 = positionsTo w (cond (w .upward) (r .start .0) (r .end .0)) };
+  high = record { 0 = positionsTo w (cond (w .upward) (r .end .0) (r .start .0)) };
+  base = record { 0 = indexFrom (w .layout) (r .start .0) };
 }
 
 abbrev pub extentIn : Strided → Part → Extent
@@ -52,7 +52,7 @@ shareOf x q = shareIn (stridedOf x) q (partIn (x .mapping .dealing) q)
 
 -- does the processor own position t?
 abbrev pub ownedIn : Span → ℕ → Bool
-ownedIn r t = leb (r .low) t && ltb t (r .high)
+ownedIn r t = leb (r .low .0) t && ltb t (r .high .0)
 
 abbrev pub ownedOf : Strided → ℕ → Extent → ℕ → Bool
 ownedOf w q extent.Blocks t = ownedAt w q t
@@ -63,7 +63,7 @@ ownedBy s t = ownedOf (s .section) (s .processor) (s .extent) t
 
 -- its first place in a section of n
 abbrev pub firstIn : Span → ℕ → ℕ
-firstIn r n = cond (ltb (r .low) (r .high)) (r .low) n
+firstIn r n = cond (ltb (r .low .0) (r .high .0)) (r .low .0) n
 
 abbrev pub placeFrom : Strided → ℕ → Extent → ℕ
 placeFrom w q extent.Blocks = placeIn w q
@@ -74,7 +74,7 @@ placeBy s = placeFrom (s .section) (s .processor) (s .extent)
 
 -- the next place after position t
 abbrev pub afterIn : Span → ℕ → ℕ → ℕ
-afterIn r n t = cond (ltb (suc t) (r .high)) (suc t) n
+afterIn r n t = cond (ltb (suc t) (r .high .0)) (suc t) n
 
 abbrev pub nextFrom : Strided → Extent → ℕ → ℕ
 nextFrom w extent.Blocks t = nextIn w t
@@ -85,7 +85,7 @@ nextBy s t = nextFrom (s .section) (s .extent) t
 
 -- the local address of position t
 abbrev pub offBase : Strided → Span → ℕ → ℕ
-offBase w r t = indexAt w t - r .base
+offBase w r t = indexAt w t - r .base .0
 
 abbrev pub addressFrom : Strided → Extent → ℕ → ℕ
 addressFrom w extent.Blocks t = rank (ownerOf (w .layout)) (indexAt w t)
@@ -97,7 +97,7 @@ addressBy s t = addressFrom (s .section) (s .extent) t
 -- how many there are
 abbrev pub heldFrom : Strided → ℕ → Extent → ℕ
 heldFrom w q extent.Blocks = tally (ownedAt w q) (w .count)
-heldFrom w q (extent.Run r) = r .high - r .low
+heldFrom w q (extent.Run r) = r .high .0 - r .low .0
 
 abbrev pub heldBy : Share → ℕ
 heldBy s = heldFrom (s .section) (s .processor) (s .extent)
@@ -128,11 +128,11 @@ pub record Shared (s : Share) (t : ℕ) : Type 0 where
 -- position t of a run, whose index is not below the base
 pub record Based (w : Strided) (r : Span) (t : ℕ) : Type 0 where
   pub held : Held w t
-  pub base : r .base ≤ indexAt w t
+  pub base : r .base .0 ≤ indexAt w t
 
 abbrev pub BasedIn : Strided → Extent → ℕ → Type 0
 BasedIn w extent.Blocks t = Unit {0}
-BasedIn w (extent.Run r) t = r .base ≤ indexAt w t
+BasedIn w (extent.Run r) t = r .base .0 ≤ indexAt w t
 
 abbrev pub BasedBy : Share → ℕ → Type 0
 BasedBy s t = BasedIn (s .section) (s .extent) t

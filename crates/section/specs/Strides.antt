@@ -3,9 +3,8 @@ use Prim.Native.Nat.{ℕ, _+_, _-_, _*_, _^_, _≤_, _<_}
 use mathlib.Core.Path.{_≡_}
 use mathlib.Core.Bool.{Bool, true, false, _&&_, _||_}
 use lib.Dec.{eqb}
-use lib.IntN.{ℤ, pos, natAbs, _+ℤ_, _*ℤ_}
+use lib.IntN.{ℤ, pos, natAbs, _+ℤ_, _-ℤ_, _*ℤ_}
 use Rattle.numbers.specs.Search.{passing, headOr}
-use Rattle.model.specs.declared.Triplet.{Triplet}
 use Rattle.model.specs.Mappings.{Section}
 use Rattle.model.specs.declared.Steps.{Steps}
 use Rattle.model.specs.Ownership.{cellOf, courseCells, ownerOf, owns}
@@ -15,20 +14,16 @@ use Rattle.model.specs.Sized.{Sized}
 use Rattle.model.specs.Questions.{isBelow}
 use Rattle.section.specs.declared.questions.Strided.{Strided}
 
--- l:h:s as a triplet
-abbrev pub tripletOf : ℤ → ℤ → ℤ → Triplet
-tripletOf l h s = record { lower = l; upper = h; stride = s }
-
--- question 7, of an array of n elements and a section of c, from l by s, l counted from 0
-abbrev pub endsIn : ℕ → ℤ → ℤ → ℕ → Bool
-endsIn n l s c = eqb c 0 || (isBelow (pos n) l && isBelow (pos n) (l +ℤ pos (c - 1) *ℤ s))
+-- question 7, of an array of n elements from lower on and a section of c, from l by s
+abbrev pub endsIn : ℕ → ℤ → ℤ → ℤ → ℕ → Bool
+endsIn n lower l s c = eqb c 0 || (isBelow (pos n) (l -ℤ lower) && isBelow (pos n) (l +ℤ pos (c - 1) *ℤ s -ℤ lower))
 
 -- a section as its count, its first index, the size of s and the walking direction
 unfoldable pub stridedOf : Section → Strided
 stridedOf x = record {
   layout = layout x;
   count = count x;
-  first = index x 0;
+  first = record { 0 = index x 0 };
   stride = natAbs (x .triplet .stride);
   upward = upward x;
 }
@@ -40,9 +35,9 @@ pub record Bounded (w : Strided) : Type 0 where
   pub stride-high : w .stride ≤ 2147483647
   pub count-high : w .count ≤ 2147483647
   -- the first and the last element are the array's
-  pub first-inside : 0 < w .count → w .first < w .layout .size
-  pub rises : w .upward ≡ true → 0 < w .count → w .first + (w .count - 1) * w .stride < w .layout .size
-  pub falls : w .upward ≡ false → 0 < w .count → (w .count - 1) * w .stride ≤ w .first
+  pub first-inside : 0 < w .count → w .first .0 < w .layout .size
+  pub rises : w .upward ≡ true → 0 < w .count → w .first .0 + (w .count - 1) * w .stride < w .layout .size
+  pub falls : w .upward ≡ false → 0 < w .count → (w .count - 1) * w .stride ≤ w .first .0
   -- of one element alone too
   pub spread-fits : w .layout .stride * w .stride < 2 ^ 43
   -- two elements lie in the template, so that their distance does
@@ -55,7 +50,7 @@ moved false x n = x - n
 
 -- the index and the cell of the element at position t
 unfoldable pub indexAt : Strided → ℕ → ℕ
-indexAt w t = moved (w .upward) (w .first) (t * w .stride)
+indexAt w t = moved (w .upward) (w .first .0) (t * w .stride)
 
 unfoldable pub cellAt : Strided → ℕ → ℕ
 cellAt w t = cellOf (w .layout) (indexAt w t)

@@ -4,20 +4,14 @@ ghost use mathlib.Core.Bool.{true};
 ghost use Prim.Native.Nat.{_≤_};
 ghost use lib.IntN.{pos, natAbs, _+ℤ_, _*ℤ_};
 ghost use Rattle.model.specs.Questions.{inRange};
-ghost use Rattle.model.specs.Sections.{countOf};
-ghost use Rattle.section.specs.Strides.{tripletOf};
-ghost use Rattle.section.specs.Cases.{caseOf};
+ghost use Rattle.model.specs.Sections.{tripletOf, countOf};
+ghost use Rattle.model.specs.Cases.{caseOf};
 use mapping::questions::natural;
+use model::Case;
+use model::Declared;
+use model::Position;
 
-// How the Fortran text reads l:h:s: forward or backward over the distance from l to h, by the
-// size of s; or empty, where h lies the other way.
-pub enum Case {
-    Forward { distance: u64, stride: u64 },
-    Backward { distance: u64, stride: u64 },
-    Empty,
-}
-
-// Which of them l:h:s is.
+// Which case l:h:s is.
 fn case_of(l: i64, h: i64, s: i64) -> Case
     requires { ⌜ inRange (tripletOf l h s) ≡ true ⌝ }
     ensures { λ r. ⌜ r ≡ caseOf (tripletOf l h s) ⌝ }
@@ -53,11 +47,12 @@ pub fn count_of(l: i64, h: i64, s: i64) -> u64
 }
 
 // The element at position t.
-pub fn element_at(l: i64, s: i64, t: u64) -> i64
-    requires { ⌜ (natAbs l ≤ 4294967294) × (natAbs s ≤ 2147483647) × (t ≤ 4294967295) ⌝ }
-    ensures { λ r. ⌜ r ≡ l +ℤ pos t *ℤ s ⌝ }
+pub fn element_at(l: Declared, s: i64, t: Position) -> Declared
+    requires { ⌜ (natAbs (l .0) ≤ 2147483647) × (natAbs s ≤ 2147483647) × (t .0 ≤ 4294967295) ⌝ }
+    ensures { λ r. ⌜ r .0 ≡ l .0 +ℤ pos (t .0) *ℤ s ⌝ }
+    ensures { λ r. ⌜ natAbs (r .0) ≤ 9223372034707292160 ⌝ }
 {
-    l + (t as i64) * s
+    Declared(l.0 + (t.0 as i64) * s)
 }
 
 // The size of s.

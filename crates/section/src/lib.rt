@@ -4,8 +4,8 @@
 // other modules.
 ghost use mathlib.Core.Path.{_≡_};
 ghost use Rattle.model.specs.Mappings.{sectionWith};
-ghost use Rattle.model.specs.Calls.{sectionSteps, firstPlaceAt};
-ghost use Rattle.section.specs.Answers.{stepsAs, placedAs};
+ghost use Rattle.model.specs.Calls.{sectionSteps, firstPlaceAt, ToldApart};
+ghost use Rattle.section.specs.Answers.{stepsAs, stepsRefusals, placedAs, placedRefusals};
 use model::Section;
 use place::Placed;
 use place::placed_in;
@@ -29,6 +29,7 @@ pub mod strides;
 // The count of a section and its steps.
 pub fn section_steps(x: Section, sizes: &[u8]) -> SectionSteps
     ensures { λ r. ⌜ stepsAs r ≡ sectionSteps (sectionWith x (now (sizes .entry))) ⌝ }
+    ensures { λ r. ⌜ ToldApart (stepsRefusals r) ⌝ }
 {
     let m = x.mapping;
     let d = m.dealing;
@@ -41,6 +42,7 @@ pub fn section_steps(x: Section, sizes: &[u8]) -> SectionSteps
 // The lowest position whose element the processor owns, or the count if there is none.
 pub fn first_place(x: Section, sizes: &[u8], processor: i64) -> Placed
     ensures { λ r. ⌜ placedAs r ≡ firstPlaceAt (sectionWith x (now (sizes .entry))) processor ⌝ }
+    ensures { λ r. ⌜ ToldApart (placedRefusals r) ⌝ }
 {
     let m = x.mapping;
     let d = m.dealing;

@@ -6,7 +6,8 @@ ghost use Rattle.section.specs.Strides.{Bounded, placeIn};
 ghost use Rattle.section.specs.Places.{firstFrom, foundBelow, Block};
 ghost use Rattle.model.specs.Mappings.{dealingWith};
 ghost use Rattle.mapping.specs.Parts.{Listed};
-ghost use Rattle.section.specs.Answers.{placedAs, firstPlaceIn};
+ghost use Rattle.model.specs.Calls.{ToldApart};
+ghost use Rattle.section.specs.Answers.{placedAs, placedRefusals, firstPlaceIn};
 use crate::questions::Strided;
 use crate::questions::is_processor;
 use crate::shares::first_of;
@@ -15,7 +16,6 @@ use crate::strides::course_cells;
 use crate::strides::spread_of;
 use mapping::dealing::cell_of;
 use model::Dealing;
-use model::Index;
 use model::Position;
 use numbers::Hit;
 use numbers::first_hit;
@@ -58,7 +58,7 @@ pub fn place_of(w: Strided, q: u64) -> Position
     let l = w.layout;
     let k = l.block;
     let m = course_cells(l);
-    let c = cell_of(l, Index(w.first)).0 % m;
+    let c = cell_of(l, w.first).0 % m;
     let s = spread_of(w) % m;
     let low = q * k;
     if w.upward {
@@ -79,6 +79,7 @@ pub enum Placed {
 pub fn placed_in(w: Strided, d: Dealing, sizes: &[u8], processor: i64) -> Placed
     requires { ⌜ Bounded w × Listed (w .layout) (dealingWith d (now sizes)) ⌝ }
     ensures { λ r. ⌜ placedAs r ≡ firstPlaceIn w (dealingWith d (now (sizes .entry))) processor ⌝ }
+    ensures { λ r. ⌜ ToldApart (placedRefusals r) ⌝ }
 {
     let l = w.layout;
     if !is_processor(l, processor) {

@@ -19,9 +19,9 @@ pub fn index_at(w: Strided, t: Position) -> Index
 {
     let on = t.0 * w.stride;
     if w.upward {
-        return Index(w.first + on);
+        return Index(w.first.0 + on);
     }
-    Index(w.first - on)
+    Index(w.first.0 - on)
 }
 
 pub fn cell_at(w: Strided, t: Position) -> Cell

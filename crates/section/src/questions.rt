@@ -2,10 +2,11 @@
 // and the section that passes them, on natural numbers.
 ghost use mathlib.Core.Path.{_≡_};
 ghost use Prim.Native.Nat.{_≤_};
-ghost use lib.IntN.{pos, natAbs};
+ghost use lib.IntN.{pos, natAbs, _-ℤ_};
 ghost use Rattle.model.specs.Mappings.{sectionWith};
+ghost use Rattle.model.specs.Sections.{tripletOf};
 ghost use Rattle.model.specs.Questions.{isBelow, inRange};
-ghost use Rattle.section.specs.Strides.{tripletOf, endsIn};
+ghost use Rattle.section.specs.Strides.{endsIn};
 ghost use Rattle.section.specs.Answers.{askedOf, askedIn, Sound};
 use crate::count::count_of;
 use crate::count::element_at;
@@ -16,11 +17,12 @@ use mapping::questions::is_below;
 use mapping::questions::list_fits;
 use mapping::questions::natural;
 use mapping::questions::within;
+use model::Declared;
+use model::Index;
 use model::Layout;
+use model::MOST;
+use model::Position;
 use model::Section;
-
-// The largest size of a triplet's numbers.
-const MOST: i64 = 2147483647;
 
 // Question 6.
 fn in_range(l: i64, h: i64, s: i64) -> bool
@@ -38,19 +40,26 @@ fn in_range(l: i64, h: i64, s: i64) -> bool
     s != 0
 }
 
-// Question 7, of an array of n elements and a section of c, from index l on, which counts
-// from 0. An empty one has no ends.
-fn ends_in(n: u64, l: i64, s: i64, c: u64) -> bool
-    requires { ⌜ (natAbs l ≤ 4294967294) × (natAbs s ≤ 2147483647) × (c ≤ 4294967295) ⌝ }
-    ensures { λ r. ⌜ r ≡ endsIn n l s c ⌝ }
+// Is j an index of an array of n elements, of which lower is the first?
+fn is_index(n: u64, lower: i64, j: Declared) -> bool
+    requires { ⌜ (natAbs lower ≤ 2147483647) × (natAbs (j .0) ≤ 9223372034707292160) ⌝ }
+    ensures { λ r. ⌜ r ≡ isBelow (pos n) (j .0 -ℤ lower) ⌝ }
+{
+    is_below(j.0 - lower, n)
+}
+
+// Question 7, of such an array and a section of c elements, from l on. An empty one has no ends.
+fn ends_in(n: u64, lower: i64, l: Declared, s: i64, c: u64) -> bool
+    requires { ⌜ (natAbs lower ≤ 2147483647) × (natAbs (l .0) ≤ 2147483647) × (natAbs s ≤ 2147483647) × (c ≤ 4294967295) ⌝ }
+    ensures { λ r. ⌜ r ≡ endsIn n lower (l .0) s c ⌝ }
 {
     if c == 0 {
         return true;
     }
-    if !is_below(l, n) {
+    if !is_index(n, lower, l) {
         return false;
     }
-    is_below(element_at(l, s, c - 1), n)
+    is_index(n, lower, element_at(l, s, Position(c - 1)))
 }
 
 // A section that passed its questions: its count, the index from 0 of its first element, the
@@ -58,7 +67,7 @@ fn ends_in(n: u64, l: i64, s: i64, c: u64) -> bool
 pub struct Strided {
     pub layout: Layout,
     pub count: u64,
-    pub first: u64,
+    pub first: Index,
     pub stride: u64,
     pub upward: bool,
 }
@@ -79,14 +88,13 @@ fn triplet_asked(m: Layout, lower: i64, l: i64, h: i64, s: i64) -> Asked
         return Asked::Refused(6);
     }
     let c = count_of(l, h, s);
-    let first = l - lower;
-    if !ends_in(m.size, first, s, c) {
+    if !ends_in(m.size, lower, Declared(l), s, c) {
         return Asked::Refused(7);
     }
     Asked::By(Strided {
         layout: m,
         count: c,
-        first: natural(first),
+        first: Index(natural(l - lower)),
         stride: size_of(s),
         upward: 0 <= s,
     })

@@ -1,8 +1,8 @@
 // The steps of a section as they are reported, with the sign of each column move.
 ghost use mathlib.Core.Path.{_≡_};
 ghost use Prim.Native.Nat.{_≤_};
-ghost use Rattle.model.specs.Calls.{stepsReport};
-ghost use Rattle.section.specs.Answers.{stepAs, stepsAs, reportBy, Short};
+ghost use Rattle.model.specs.Calls.{stepsReport, ToldApart};
+ghost use Rattle.section.specs.Answers.{stepAs, stepsAs, stepsRefusals, reportBy, Short};
 use model::Step;
 use model::Steps;
 
@@ -39,6 +39,7 @@ fn report_step(r: Step, back: bool) -> Reported
 pub fn report_of(count: u64, s: Steps) -> SectionSteps
     requires { ⌜ Short 2147483647 s ⌝ }
     ensures { λ r. ⌜ stepsAs r ≡ stepsReport count s ⌝ }
+    ensures { λ r. ⌜ ToldApart (stepsRefusals r) ⌝ }
 {
     match s {
         Steps::NoStep => SectionSteps::NoStep(count),

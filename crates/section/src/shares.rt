@@ -29,6 +29,7 @@ use mapping::runs::Run;
 use model::Address;
 use model::Cell;
 use model::Dealing;
+use model::Index;
 use model::Position;
 use model::Steps;
 use numbers::multiples_below;
@@ -36,9 +37,9 @@ use numbers::multiples_below;
 // The positions of a run, those from low to high - 1, and the index of the processor's first element
 // of the array.
 pub struct Span {
-    pub low: u64,
-    pub high: u64,
-    pub base: u64,
+    pub low: Position,
+    pub high: Position,
+    pub base: Index,
 }
 
 pub enum Extent {
@@ -64,16 +65,16 @@ fn above(a: u64, b: u64) -> u64
 
 // How many positions come before cell c: going up those on cells below it, going down those on cells
 // not below it.
-fn positions_to(w: Strided, c: u64) -> u64
-    requires { ⌜ Bounded w × (0 < w .count) × (c ≤ 2 ^ 42) ⌝ }
-    ensures { λ r. ⌜ r ≡ positionsTo w c ⌝ }
+fn positions_to(w: Strided, c: Cell) -> Position
+    requires { ⌜ Bounded w × (0 < w .count) × (c .0 ≤ 2 ^ 42) ⌝ }
+    ensures { λ r. ⌜ r .0 ≡ positionsTo w (c .0) ⌝ }
 {
     let first = cell_at(w, Position(0)).0;
     let s = spread_of(w);
     if w.upward {
-        return multiples_below(s, w.count, above(c, first));
+        return Position(multiples_below(s, w.count, above(c.0, first)));
     }
-    multiples_below(s, w.count, above(first + 1, c))
+    Position(multiples_below(s, w.count, above(first + 1, c.0)))
 }
 
 // The positions on the cells of a run.
@@ -82,11 +83,11 @@ fn span_of(w: Strided, r: Run) -> Span
     ensures { λ s. ⌜ s ≡ spanIn w r ⌝ }
 {
     let l = w.layout;
-    let base = index_from(l, Cell(r.start)).0;
+    let base = index_from(l, r.start);
     if w.count == 0 {
         return Span {
-            low: 0,
-            high: 0,
+            low: Position(0),
+            high: Position(0),
             base,
         };
     }
@@ -132,10 +133,10 @@ pub fn share_of(w: Strided, d: Dealing, sizes: &[u8], processor: i64) -> Share
 fn in_span(r: Span, t: Position) -> bool
     ensures { λ b. ⌜ b ≡ ownedIn r (t .0) ⌝ }
 {
-    if t.0 < r.low {
+    if t.0 < r.low.0 {
         return false;
     }
-    t.0 < r.high
+    t.0 < r.high.0
 }
 
 // Does the processor own the element at position t?
@@ -154,8 +155,8 @@ pub fn owns_at(s: Share, t: Position) -> bool
 fn first_in(r: Span, count: u64) -> Position
     ensures { λ t. ⌜ t .0 ≡ firstIn r count ⌝ }
 {
-    if r.low < r.high {
-        return Position(r.low);
+    if r.low.0 < r.high.0 {
+        return r.low;
     }
     Position(count)
 }
@@ -177,7 +178,7 @@ fn after(r: Span, count: u64, t: Position) -> Position
     requires { ⌜ t .0 < 4294967296 ⌝ }
     ensures { λ u. ⌜ u .0 ≡ afterIn r count (t .0) ⌝ }
 {
-    if t.0 + 1 < r.high {
+    if t.0 + 1 < r.high.0 {
         return Position(t.0 + 1);
     }
     Position(count)
@@ -200,7 +201,7 @@ fn address_in(w: Strided, r: Span, t: Position) -> Address
     requires { ⌜ Based w r (t .0) ⌝ }
     ensures { λ a. ⌜ a .0 ≡ offBase w r (t .0) ⌝ }
 {
-    Address(index_at(w, t).0 - r.base)
+    Address(index_at(w, t).0 - r.base.0)
 }
 
 // The local address of the element at position t, which the processor owns.
@@ -225,6 +226,6 @@ pub fn elements_in(s: Share) -> u64
     let e = s.extent;
     match e {
         Extent::Blocks => elements_of(w, s.processor),
-        Extent::Run(r) => above(r.high, r.low),
+        Extent::Run(r) => above(r.high.0, r.low.0),
     }
 }

@@ -8,7 +8,6 @@ use borrow.Author.Tests.{ne-eqb, le-leb, lt-leb}
 use lib.IntN.{ℤ}
 use lib.ListN.{length}
 use Rattle.model.specs.Mappings.{Mapping, mappingWith}
-use Rattle.model.specs.declared.Dealing.{Dealing}
 use Rattle.model.specs.declared.Mapping as mappings
 use Rattle.model.specs.declared.Layout.{Layout}
 use Rattle.model.specs.Ownership.{layoutOf, owner}
@@ -21,28 +20,21 @@ use Rattle.mapping.specs.declared.questions.Mapped.the-variants.{By, Refused}
 use Rattle.mapping.specs.Parts.{Listed}
 use Rattle.mapping.specs.Answers.{mappedOf}
 use Rattle.mapping.proofs.CallLaws.{stopped, passed, listed-by}
-use Rattle.storage.specs.declared.Copied.the-variants.{Whole, Needs}
 use Rattle.storage.specs.Copying.{fromPlace, toPlace, copiedBy}
 use Rattle.storage.specs.Answers.{copiedAs, written, hasRoom, copiedIn, writtenIn}
 use Rattle.storage.proofs.DealtWords.{by-places}
 
--- ---- an accepted layout
+-- ---- question 13
 
-module _ (b : Bool) (l : Layout) (d : Dealing) (s to : List ℕ) where
-  too-short : hasRoom (l .size) s to ≡ false → (Needs (l .size) ≡ copiedIn l s to) × (to ≡ writtenIn b l d s to)
-  too-short h = (rw h, rw h)
+module _ (n : ℕ) (s to : List ℕ) where
+  pub read-short : length s < n → hasRoom n s to ≡ false
+  read-short h = rw (lt-leb n (length s) h)
 
-  pub read-short : length s < l .size → (Needs (l .size) ≡ copiedIn l s to) × (to ≡ writtenIn b l d s to)
-  read-short h = too-short (rw (lt-leb (l .size) (length s) h))
+  pub written-short : n ≤ length s → length to < n → hasRoom n s to ≡ false
+  written-short k h = rw (le-leb n (length s) k, lt-leb n (length to) h)
 
-  pub written-short : l .size ≤ length s → length to < l .size → (Needs (l .size) ≡ copiedIn l s to) × (to ≡ writtenIn b l d s to)
-  written-short k h = too-short (rw (le-leb (l .size) (length s) k, lt-leb (l .size) (length to) h))
-
-  pub whole : l .size ≤ length s → l .size ≤ length to → (to′ : List ℕ) → to′ ≡ copiedBy b l d s to
-      → (Whole ≡ copiedIn l s to) × (to′ ≡ writtenIn b l d s to)
-  whole k h to′ e =
-      let room : hasRoom (l .size) s to ≡ true = rw (le-leb (l .size) (length s) k, le-leb (l .size) (length to) h) in
-      (rw room, rw room e)
+  pub room : n ≤ length s → n ≤ length to → hasRoom n s to ≡ true
+  room k h = rw (le-leb n (length s) k, le-leb n (length to) h)
 
 module _ (m : Mapping) (s to : List ℕ) where
   -- ---- the mapping is refused

@@ -57,10 +57,10 @@ lone-length p pos le one before len c e some = go (ltb c (p .limit)) refl
     go true k = let e′ : before + len ≡ p .many = rw k at e in omega arith
     go false k = let e′ : before + len ≡ p .few = rw k at e in omega arith
 
-next-index : (p : Pace) (r : Run) (taken : ℕ) → nextRun p r taken .index ≡ r .index + taken
+next-index : (p : Pace) (r : Run) (taken : ℕ) → nextRun p r taken .index .0 ≡ r .index .0 + taken
 next-index p r taken = go (ltb (r .column) (p .limit)) refl
   where
-    go : (b : Bool) → ltb (r .column) (p .limit) ≡ b → nextRun p r taken .index ≡ r .index + taken
+    go : (b : Bool) → ltb (r .column) (p .limit) ≡ b → nextRun p r taken .index .0 ≡ r .index .0 + taken
     go true e = rw e
     go false e = rw e
 
@@ -68,19 +68,19 @@ next-index p r taken = go (ltb (r .column) (p .limit)) refl
 pub record Cut (n : ℕ) (r : Run) (len : ℕ) : Type 0 where
   pub some : 0 < len
   pub within : len ≤ r .length
-  pub below : r .index + len ≤ n
-  pub all : (len ≡ r .length) ⊎ (r .index + len ≡ n)
+  pub below : r .index .0 + len ≤ n
+  pub all : (len ≡ r .length) ⊎ (r .index .0 + len ≡ n)
 
 module _ {l : Layout} {p : Pace} {r : Run} {row s to : List ℕ} (h : Ready l p r row s to) where
-  pub least-cut : Cut (l .size) r (leastOf (r .length) (l .size - r .index))
-  least-cut = go (ltb (r .length) (l .size - r .index)) refl
+  pub least-cut : Cut (l .size) r (leastOf (r .length) (l .size - r .index .0))
+  least-cut = go (ltb (r .length) (l .size - r .index .0)) refl
     where
-      go : (b : Bool) → ltb (r .length) (l .size - r .index) ≡ b → Cut (l .size) r (leastOf (r .length) (l .size - r .index))
+      go : (b : Bool) → ltb (r .length) (l .size - r .index .0) ≡ b → Cut (l .size) r (leastOf (r .length) (l .size - r .index .0))
       go true e =
-          let k = ltb-true (r .length) (l .size - r .index) e in
+          let k = ltb-true (r .length) (l .size - r .index .0) e in
           rw e (record { some = h .stands .some; within = omega arith; below = omega arith; all = inl refl })
       go false e =
-          let k = ltb-false (r .length) (l .size - r .index) e in
+          let k = ltb-false (r .length) (l .size - r .index .0) e in
           rw e
           (record {
             some = omega (arith, h .index);
@@ -99,32 +99,32 @@ module _ {l : Layout} {p : Pace} {r : Run} {row s to : List ℕ} (h : Ready l p 
   at = getD row (r .processor) 0
 
   module _ {len : ℕ} (cut : Cut (l .size) r len) where
-    owned : (j : ℕ) → j < len → ownerOf l (r .index + j) ≡ r .processor
+    owned : (j : ℕ) → j < len → ownerOf l (r .index .0 + j) ≡ r .processor
     owned j k = run-owner l (h .sized) p (h .paced) r (h .stands) (h .processor) j (omega (arith, cut .within))
 
-    place : (j : ℕ) → j < len → storagePlace (ownerOf l) (l .size) (r .index + j) ≡ at + j
+    place : (j : ℕ) → j < len → storagePlace (ownerOf l) (l .size) (r .index .0 + j) ≡ at + j
     place j k =
-        run-place (ownerOf l) (l .size) (r .processor) (r .index) len owned j k
+        run-place (ownerOf l) (l .size) (r .processor) (r .index .0) len owned j k
         ∙ ap (λ (x : ℕ). x + j) (sym (h .pointers (r .processor) (h .processor)))
 
     -- they end in the storage
     pub at-room : at + len ≤ l .size
     at-room =
         let last : ℕ = len - 1 in
-        let low = place-below (ownerOf l) (l .processors) (l .size) (λ i k. cyclic-owner-lt l (h .sized .processors-pos) i) (r .index + last) (omega (arith, cut .some, cut .below)) in
+        let low = place-below (ownerOf l) (l .processors) (l .size) (λ i k. cyclic-owner-lt l (h .sized .processors-pos) i) (r .index .0 + last) (omega (arith, cut .some, cut .below)) in
         omega (arith, low, place last (omega (arith, cut .some)), cut .some)
 
     -- so there is room in both lists
-    pub read-room : (b : Bool) → fromPlace b (r .index) at + len ≤ length s
+    pub read-room : (b : Bool) → fromPlace b (r .index .0) at + len ≤ length s
     read-room true = omega (arith, cut .below, h .read)
     read-room false = omega (arith, at-room, h .read)
 
-    pub write-room : (b : Bool) → toPlace b (r .index) at + len ≤ length to
+    pub write-room : (b : Bool) → toPlace b (r .index .0) at + len ≤ length to
     write-room true = omega (arith, at-room, h .written)
     write-room false = omega (arith, cut .below, h .written)
 
     pub takes : (b : Bool) (row′ to′ : List ℕ) → row′ ≡ set row (r .processor) (at + len)
-        → to′ ≡ copiedRun (fromPlace b (r .index) at) (toPlace b (r .index) at) len s to
+        → to′ ≡ copiedRun (fromPlace b (r .index .0) at) (toPlace b (r .index .0) at) len s to
         → Takes b l p r (nextRun p r len) s row to row′ to′
     takes b row′ to′ e f = record {
       later = rw (next-index p r len) (omega (arith, cut .some));
@@ -132,18 +132,18 @@ module _ {l : Layout} {p : Pace} {r : Run} {row s to : List ℕ} (h : Ready l p 
       stands = λ k. go (cut .all) (rw (next-index p r len) at k);
       pointers = rw (next-index p r len, e, h .pointers (r .processor) (h .processor)) moved;
       row-length = ap length e ∙ length-set row (r .processor) (at + len);
-      words = f ∙ run-words b l (r .index) at len s to place ∙ ap (λ (x : ℕ). copiedOn b l (r .index) x s to) next-length;
+      words = f ∙ run-words b l (r .index .0) at len s to place ∙ ap (λ (x : ℕ). copiedOn b l (r .index .0) x s to) next-length;
     }
       where
-        moved : Points (ownerOf l) (l .size) (l .processors) (r .index + len)
-            (set row (r .processor) (pointer (ownerOf l) (l .size) (r .index) (r .processor) + len))
+        moved : Points (ownerOf l) (l .size) (l .processors) (r .index .0 + len)
+            (set row (r .processor) (pointer (ownerOf l) (l .size) (r .index .0) (r .processor) + len))
         moved =
-            points-on (ownerOf l) (l .size) (r .processor) (r .index) len owned (l .processors) row (h .pointers) (h .processor) (h .row-room)
+            points-on (ownerOf l) (l .size) (r .processor) (r .index .0) len owned (l .processors) row (h .pointers) (h .processor) (h .row-room)
 
-        next-length : len ≡ nextRun p r len .index - r .index
+        next-length : len ≡ nextRun p r len .index .0 - r .index .0
         next-length = rw (next-index p r len) (omega arith)
 
-        go : (len ≡ r .length) ⊎ (r .index + len ≡ l .size) → r .index + len < l .size → Stands l p (nextRun p r len)
+        go : (len ≡ r .length) ⊎ (r .index .0 + len ≡ l .size) → r .index .0 + len < l .size → Stands l p (nextRun p r len)
         go (inl all) k = rw all (next-stands l (h .sized) p (h .paced) r (h .stands) (h .processor))
         go (inr end) k = absurd (omega arith)
 
@@ -161,16 +161,16 @@ takes-join {b} {l} {p} {start} {r} {e} {s} {row} {to} x y = record {
   row-length = y .row-length ∙ x .row-length;
   words =
       y .words
-      ∙ ap (copiedOn b l (r .index) (e .index - r .index) s) (x .words)
-      ∙ words-join b l (start .index) (r .index) (e .index) s to (omega (arith, x .later)) (omega (arith, y .later));
+      ∙ ap (copiedOn b l (r .index .0) (e .index .0 - r .index .0) s) (x .words)
+      ∙ words-join b l (start .index .0) (r .index .0) (e .index .0) s to (omega (arith, x .later)) (omega (arith, y .later));
 }
 
 module _ {b : Bool} {l : Layout} {p : Pace} {start r : Run} {s row to row′ to′ : List ℕ} (h : Ready l p start row s to)
     (t : Takes b l p start r s row to row′ to′) where
   pub taken-length : length to′ ≡ length to
-  taken-length = ap length (t .words) ∙ copied-length _ _ (r .index - start .index) s to
+  taken-length = ap length (t .words) ∙ copied-length _ _ (r .index .0 - start .index .0) s to
 
-  pub ready-on : (w : Run) → w .index ≡ r .index → r .index < l .size → Stands l p w → w .processor < l .processors → Ready l p w row′ s to′
+  pub ready-on : (w : Run) → w .index .0 ≡ r .index .0 → r .index .0 < l .size → Stands l p w → w .processor < l .processors → Ready l p w row′ s to′
   ready-on w same below stands here = record {
     sized = h .sized;
     paced = h .paced;
@@ -190,7 +190,7 @@ abbrev pub Goes : Bool → Layout → Pace → Run → Run → List ℕ → List
 Goes b l p start r s row to row′ to′ = ((r ≡ start) × (row′ ≡ row) × (to′ ≡ to)) ⊎ Takes b l p start r s row to row′ to′
 
 module _ {b : Bool} {l : Layout} {p : Pace} {start r : Run} {s row to row′ to′ : List ℕ} (h : Ready l p start row s to) where
-  pub goes-ready : Goes b l p start r s row to row′ to′ → r .index < l .size → r .processor < l .processors → Ready l p r row′ s to′
+  pub goes-ready : Goes b l p start r s row to row′ to′ → r .index .0 < l .size → r .processor < l .processors → Ready l p r row′ s to′
   goes-ready (inl e) k q = rw (e .0, e .1, e .2) h
   goes-ready (inr t) k q = ready-on h t r refl k (t .stands k) q
 
@@ -200,9 +200,9 @@ module _ {b : Bool} {l : Layout} {p : Pace} {start r : Run} {s row to row′ to�
   goes-on (inr g) t = takes-join g t
 
   -- a lap ends past the last processor, or at the array's end: it took some
-  pub goes-end : Goes b l p start r s row to row′ to′ → (l .processors ≤ r .processor) ⊎ (l .size ≤ r .index) → Takes b l p start r s row to row′ to′
+  pub goes-end : Goes b l p start r s row to row′ to′ → (l .processors ≤ r .processor) ⊎ (l .size ≤ r .index .0) → Takes b l p start r s row to row′ to′
   goes-end (inl e) (inl k) = absurd (omega (arith, h .processor, ap (λ (x : Run). x .processor) (e .0)))
-  goes-end (inl e) (inr k) = absurd (omega (arith, h .index, ap (λ (x : Run). x .index) (e .0)))
+  goes-end (inl e) (inr k) = absurd (omega (arith, h .index, ap (λ (x : Run). x .index .0) (e .0)))
   goes-end (inr t) k = t
 
   -- the lists keep their lengths

@@ -19,9 +19,9 @@ use Rattle.storage.proofs.CopyRuns.{words-join, ready-on}
 
 -- all words below the run's index are copied, and it is ready, unless it is past the array
 pub record Along (b : Bool) (l : Layout) (p : Pace) (s row to row′ to′ : List ℕ) (r : Run) : Type 0 where
-  pub reached : r .index ≤ l .size
-  pub ready : r .index < l .size → Ready l p r row′ s to′
-  pub words : to′ ≡ copiedOn b l 0 (r .index) s to
+  pub reached : r .index .0 ≤ l .size
+  pub ready : r .index .0 < l .size → Ready l p r row′ s to′
+  pub words : to′ ≡ copiedOn b l 0 (r .index .0) s to
   pub row-length : length row′ ≡ length row
 
 pub along-start : (b : Bool) (l : Layout) (row s to : List ℕ) → Begins l row s to
@@ -46,9 +46,9 @@ along-start b l row s to h = record {
 
 module _ {b : Bool} {l : Layout} {p : Pace} {s row to row′ to′ : List ℕ} {r : Run} (a : Along b l p s row to row′ to′ r) where
   pub along-length : length to′ ≡ length to
-  along-length = ap length (a .words) ∙ copied-length _ _ (r .index) s to
+  along-length = ap length (a .words) ∙ copied-length _ _ (r .index .0) s to
 
-  pub along-on : (k : r .index < l .size) {e : Run} {row″ to″ : List ℕ} → Takes b l p r e s row′ to′ row″ to″
+  pub along-on : (k : r .index .0 < l .size) {e : Run} {row″ to″ : List ℕ} → Takes b l p r e s row′ to′ row″ to″
       → Along b l p s row to row″ to″ (wrappedRun p e)
   along-on k {e} t =
       let h = a .ready k in
@@ -59,17 +59,17 @@ module _ {b : Bool} {l : Layout} {p : Pace} {s row to row′ to′ : List ℕ} {
             (wrapped-stands l (h .sized) p (h .paced) e (t .stands below)) (wrapped-low l (h .sized) p (h .paced) e (t .stands below));
         words =
             t .words
-            ∙ ap (copiedOn b l (r .index) (e .index - r .index) s) (a .words ∙ ap (λ (m : ℕ). copiedOn b l 0 m s to) whole)
-            ∙ words-join b l 0 (r .index) (e .index) s to (omega arith) (omega (arith, t .later))
+            ∙ ap (copiedOn b l (r .index .0) (e .index .0 - r .index .0) s) (a .words ∙ ap (λ (m : ℕ). copiedOn b l 0 m s to) whole)
+            ∙ words-join b l 0 (r .index .0) (e .index .0) s to (omega arith) (omega (arith, t .later))
             ∙ ap (λ (m : ℕ). copiedOn b l 0 m s to) (sym all);
         row-length = t .row-length ∙ a .row-length;
       }
     where
-      whole : r .index ≡ r .index - 0
+      whole : r .index .0 ≡ r .index .0 - 0
       whole = omega arith
 
-      all : e .index ≡ e .index - 0
+      all : e .index .0 ≡ e .index .0 - 0
       all = omega arith
 
-  pub along-end : l .size ≤ r .index → to′ ≡ copiedOn b l 0 (l .size) s to
+  pub along-end : l .size ≤ r .index .0 → to′ ≡ copiedOn b l 0 (l .size) s to
   along-end k = a .words ∙ ap (λ (m : ℕ). copiedOn b l 0 m s to) (omega (arith, a .reached))

@@ -146,13 +146,13 @@ module _ (l : Layout) (z : Sized l) (p : Pace) (v : Paced l p) where
     q-is = sym (rw (lt-ltb (r .processor) (l .processors) here)) ∙ w .owner
 
     -- the run's elements are the processor's
-    pub run-owner : (j : ℕ) → j < r .length → ownerOf l (r .index + j) ≡ r .processor
+    pub run-owner : (j : ℕ) → j < r .length → ownerOf l (r .index .0 + j) ≡ r .processor
     unfolding ownerOf cellOwner cellOf
     run-owner j h =
         let column : ℕ = r .column + l .stride * (w .before + j) in
         let low : column < l .block =
         omega (arith, inside (r .column) (w .column), w .length, mul-le-mul-left (l .stride) (further j h)) in
-        let cell : l .stride * (r .index + j) + l .offset ≡ l .block * w .block + column = omega (arith, w .cell) in
+        let cell : l .stride * (r .index .0 + j) + l .offset ≡ l .block * w .block + column = omega (arith, w .cell) in
         ap (λ (b : ℕ). b % l .processors) (div-is (l .block) (w .block) column _ cell low) ∙ sym q-is
       where
         further : (j : ℕ) → j < r .length → w .before + j + 1 ≤ lengthAt p (r .column)
@@ -166,7 +166,7 @@ module _ (l : Layout) (z : Sized l) (p : Pace) (v : Paced l p) where
         -- so many blocks on, at column c
         later : (on blocks c : ℕ) → on ≡ blocks % l .processors → c < p .limit + p .rise
             → r .column + l .stride * lengthAt p (r .column) ≡ l .block * blocks + c
-            → Stands l p (runAt p (r .index + r .length) c (r .processor + on))
+            → Stands l p (runAt p (r .index .0 + r .length) c (r .processor + on))
         later on blocks c o h e =
             record {
               block = w .block + blocks;
@@ -187,7 +187,7 @@ module _ (l : Layout) (z : Sized l) (p : Pace) (v : Paced l p) where
             let c = ltb-false (r .column) (p .limit) e in
             rw e (later (p .«few_on») (v .few-blocks) (r .column - p .limit) (v .few-on) (omega (arith, w .column)) (rw e (omega (arith, v .few-cells))))
 
-    pub within : (taken : ℕ) → r .index + taken ≤ 2147483647 → Within p r taken
+    pub within : (taken : ℕ) → r .index .0 + taken ≤ 2147483647 → Within p r taken
     within taken h =
         record {
           begins = w .column;
@@ -218,7 +218,7 @@ module _ (l : Layout) (z : Sized l) (p : Pace) (v : Paced l p) where
 
 -- where no column changes
 pub even-next : (p : Pace) (r : Run) → p .rise ≡ 0 → r .column < p .limit + p .rise
-    → nextRun p r 1 ≡ record { index = r .index + 1; length = p .many; column = r .column; processor = r .processor + p .«many_on» }
+    → nextRun p r 1 ≡ record { index = record { 0 = r .index .0 + 1 }; length = p .many; column = r .column; processor = r .processor + p .«many_on» }
 even-next p r e h =
     let low : r .column < p .limit = omega arith in
     let stays : r .column + p .rise ≡ r .column = omega arith in

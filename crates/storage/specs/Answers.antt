@@ -1,7 +1,7 @@
 -- The answer of save and load, each case read as the paper's numbers. Definitions only.
 use Prim.Native.Nat.{ℕ}
 use mathlib.Core.Bool.{Bool, cond, _&&_}
-use mathlib.Core.List.{List}
+use mathlib.Core.List.{List, [], _∷_}
 use lib.Dec.{leb}
 use lib.ListN.{length}
 use Rattle.model.specs.declared.Dealing.{Dealing}
@@ -15,6 +15,12 @@ abbrev pub copiedAs : Copied → CopyAnswer
 copiedAs Whole = record { refusal = 0; needed = 0 }
 copiedAs (Needs n) = record { refusal = 13; needed = n }
 copiedAs (Refused e) = record { refusal = e; needed = 0 }
+
+-- the numbers of the refusals that it holds, if any
+abbrev pub copiedRefusals : Copied → List ℕ
+copiedRefusals Whole = []
+copiedRefusals (Needs n) = []
+copiedRefusals (Refused e) = e ∷ []
 
 -- the list that is written
 abbrev pub written : Bool → CopyCall → List ℕ

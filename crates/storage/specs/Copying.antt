@@ -77,10 +77,10 @@ copiedBy loading l GenBlock s to = copiedRun 0 0 (l .size) s to
 pub record Ready (l : Layout) (p : Pace) (r : Run) (row s to : List ℕ) : Type 0 where
   pub sized : Sized l
   pub paced : Paced l p
-  pub index : r .index < l .size
+  pub index : r .index .0 < l .size
   pub stands : Stands l p r
   pub processor : r .processor < l .processors
-  pub pointers : Points (ownerOf l) (l .size) (l .processors) (r .index) row
+  pub pointers : Points (ownerOf l) (l .size) (l .processors) (r .index .0) row
   pub row-room : l .processors ≤ length row
   pub read : l .size ≤ length s
   pub written : l .size ≤ length to
@@ -95,9 +95,9 @@ pub record Begins (l : Layout) (row s to : List ℕ) : Type 0 where
 
 -- from one run up to another
 pub record Takes (loading : Bool) (l : Layout) (p : Pace) (start r : Run) (s row to row′ to′ : List ℕ) : Type 0 where
-  pub later : start .index < r .index
-  pub reached : r .index ≤ l .size
-  pub stands : r .index < l .size → Stands l p r
-  pub pointers : Points (ownerOf l) (l .size) (l .processors) (r .index) row′
+  pub later : start .index .0 < r .index .0
+  pub reached : r .index .0 ≤ l .size
+  pub stands : r .index .0 < l .size → Stands l p r
+  pub pointers : Points (ownerOf l) (l .size) (l .processors) (r .index .0) row′
   pub row-length : length row′ ≡ length row
-  pub words : to′ ≡ copiedOn loading l (start .index) (r .index - start .index) s to
+  pub words : to′ ≡ copiedOn loading l (start .index .0) (r .index .0 - start .index .0) s to

@@ -50,17 +50,17 @@ abbrev pub firstRun : Layout → Pace → Run
 firstRun l p =
     let column = l .offset % l .block in
     let begin = column % l .stride in
-    record { index = 0; length = lengthAt p begin - column / l .stride; column = begin; processor = cellOwner l (l .offset) }
+    record { index = record { 0 = 0 }; length = lengthAt p begin - column / l .stride; column = begin; processor = cellOwner l (l .offset) }
 
 -- the run from index i on, in a block whose elements begin at column c
 abbrev pub runAt : Pace → ℕ → ℕ → ℕ → Run
-runAt p i c q = record { index = i; length = lengthAt p c; column = c; processor = q }
+runAt p i c q = record { index = record { 0 = i }; length = lengthAt p c; column = c; processor = q }
 
 -- the run after r, of which so many elements were taken
 abbrev pub nextRun : Pace → Run → ℕ → Run
 nextRun p r taken =
-    cond (ltb (r .column) (p .limit)) (runAt p (r .index + taken) (r .column + p .rise) (r .processor + p .«many_on»))
-    (runAt p (r .index + taken) (r .column - p .limit) (r .processor + p .«few_on»))
+    cond (ltb (r .column) (p .limit)) (runAt p (r .index .0 + taken) (r .column + p .rise) (r .processor + p .«many_on»))
+    (runAt p (r .index .0 + taken) (r .column - p .limit) (r .processor + p .«few_on»))
 
 -- a processor's number less p, where it is too high
 abbrev pub wrapped : ℕ → ℕ → ℕ
@@ -93,7 +93,7 @@ pub record Paced (l : Layout) (p : Pace) : Type 0 where
 -- a run's column is one at which a block's elements begin, and the next run's numbers are small
 pub record Within (p : Pace) (r : Run) (taken : ℕ) : Type 0 where
   pub begins : r .column < p .limit + p .rise
-  pub index : r .index + taken ≤ 2147483647
+  pub index : r .index .0 + taken ≤ 2147483647
   pub column : r .column + p .rise ≤ 131072
   pub many : r .processor + p .«many_on» ≤ 2048
   pub few : r .processor + p .«few_on» ≤ 2048
@@ -103,7 +103,7 @@ pub record Stands (l : Layout) (p : Pace) (r : Run) : Type 0 where
   pub block : ℕ
   pub before : ℕ
   pub column : r .column < p .limit + p .rise
-  pub cell : cellOf l (r .index) ≡ l .block * block + (r .column + l .stride * before)
+  pub cell : cellOf l (r .index .0) ≡ l .block * block + (r .column + l .stride * before)
   pub length : before + r .length ≡ lengthAt p (r .column)
   pub some : 0 < r .length
   pub processor : r .processor < l .processors + l .processors

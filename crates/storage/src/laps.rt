@@ -10,25 +10,26 @@ use crate::runs::next_word;
 use crate::runs::pace_of;
 use crate::runs::wrapped_run;
 use crate::words::copy_run;
+use model::Index;
 use model::Layout;
 
 // Of an element and its place in the storage: loading reads in index order, saving reads the storage.
-fn place_read(loading: bool, index: usize, place: usize) -> usize
-    ensures { λ r. ⌜ r ≡ fromPlace loading index place ⌝ }
+fn place_read(loading: bool, index: Index, place: usize) -> usize
+    ensures { λ r. ⌜ r ≡ fromPlace loading (index .0) place ⌝ }
 {
     if loading {
-        return index;
+        return index.0 as usize;
     }
     place
 }
 
-fn place_written(loading: bool, index: usize, place: usize) -> usize
-    ensures { λ r. ⌜ r ≡ toPlace loading index place ⌝ }
+fn place_written(loading: bool, index: Index, place: usize) -> usize
+    ensures { λ r. ⌜ r ≡ toPlace loading (index .0) place ⌝ }
 {
     if loading {
         return place;
     }
-    index
+    index.0 as usize
 }
 
 fn least(a: usize, b: usize) -> usize
@@ -60,11 +61,12 @@ fn take_run(
     requires { ⌜ Ready l p r (now row) (now from) (now to) ⌝ }
     ensures { λ e. ⌜ Takes loading l p r e (now (from .entry)) (now (row .entry)) (now (to .entry)) (now (row .exit)) (now (to .exit)) ⌝ }
 {
-    let length = least(r.length, l.size as usize - r.index);
+    let length = least(r.length, (l.size - r.index.0) as usize);
     let q = r.processor;
     let at = place_of(row[q]);
-    let read = place_read(loading, r.index, at);
-    let written = place_written(loading, r.index, at);
+    let index = r.index;
+    let read = place_read(loading, index, at);
+    let written = place_written(loading, index, at);
     copy_run(from, read, to, written, length);
     row[q] = (at + length) as u32;
     next_run(p, r, length)
@@ -86,8 +88,9 @@ fn take_word(
 {
     let q = r.processor;
     let at = place_of(row[q]);
-    let read = place_read(loading, r.index, at);
-    let written = place_written(loading, r.index, at);
+    let index = r.index;
+    let read = place_read(loading, index, at);
+    let written = place_written(loading, index, at);
     to[written] = from[read];
     row[q] = (at + 1) as u32;
     next_word(p, r)
@@ -106,10 +109,9 @@ fn lap_of_runs(
     requires { ⌜ Ready l p start (now row) (now from) (now to) ⌝ }
     ensures { λ e. ⌜ Takes loading l p start e (now (from .entry)) (now (row .entry)) (now (to .entry)) (now (row .exit)) (now (to .exit)) ⌝ }
 {
-    let n = l.size as usize;
     let mut r = start;
     while r.processor < p.processors {
-        if n <= r.index {
+        if l.size <= r.index.0 {
             break;
         }
         r = take_run(loading, l, p, r, row, from, to);
@@ -131,10 +133,9 @@ fn lap_of_words(
     requires { ⌜ p .many ≡ 1 ⌝ }
     ensures { λ e. ⌜ Takes loading l p start e (now (from .entry)) (now (row .entry)) (now (to .entry)) (now (row .exit)) (now (to .exit)) ⌝ }
 {
-    let n = l.size as usize;
     let mut r = start;
     while r.processor < p.processors {
-        if n <= r.index {
+        if l.size <= r.index.0 {
             break;
         }
         r = take_word(loading, l, p, r, row, from, to);
@@ -165,10 +166,9 @@ pub fn copy_all(loading: bool, l: Layout, row: &mut [u32], from: &[u64], to: &mu
     requires { ⌜ Begins l (now row) (now from) (now to) ⌝ }
     ensures { λ r. ⌜ now (to .exit) ≡ copiedOn loading l 0 (l .size) (now (from .entry)) (now (to .entry)) ⌝ }
 {
-    let n = l.size as usize;
     let p = pace_of(l);
     let mut r = first_run(l, p);
-    while r.index < n {
+    while r.index.0 < l.size {
         r = wrapped_run(p, lap(loading, l, p, r, row, from, to));
     }
 }

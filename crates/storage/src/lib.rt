@@ -5,16 +5,18 @@
 // calls, which take whatever numbers and lists.
 ghost use mathlib.Core.Path.{_≡_};
 ghost use Rattle.model.specs.Mappings.{mappingWith};
+ghost use Rattle.model.specs.Calls.{ToldApart};
 ghost use Rattle.model.specs.Checkpoints.{copyOf, copying, saved, loaded};
 ghost use Rattle.model.specs.Sized.{Sized};
 ghost use Rattle.storage.specs.Copying.{copiedOn, copiedBy, Roomy};
-ghost use Rattle.storage.specs.Answers.{copiedAs, written, copiedIn, writtenIn};
+ghost use Rattle.storage.specs.Answers.{copiedAs, copiedRefusals, written, copiedIn, writtenIn};
 use mapping::questions::Mapped;
 use mapping::questions::ask_mapping;
 use mapping::questions::list_fits;
 use mapping::questions::refusal_of;
 use model::Dealing;
 use model::Layout;
+use model::MOST_PROCESSORS;
 use model::Mapping;
 
 mod laps;
@@ -35,7 +37,7 @@ fn copy_cyclic(loading: bool, l: Layout, from: &[u64], to: &mut [u64])
     requires { ⌜ Roomy l (now from) (now to) ⌝ }
     ensures { λ r. ⌜ now (to .exit) ≡ copiedOn loading l 0 (l .size) (now (from .entry)) (now (to .entry)) ⌝ }
 {
-    let mut pointers = [0u32; 1024];
+    let mut pointers = [0u32; MOST_PROCESSORS as usize];
     row::set_starts(l, &mut pointers);
     laps::copy_all(loading, l, &mut pointers, from, to);
 }
@@ -58,6 +60,7 @@ fn copy_in(loading: bool, l: Layout, d: Dealing, from: &[u64], to: &mut [u64]) -
     requires { ⌜ Sized l ⌝ }
     ensures { λ r. ⌜ r ≡ copiedIn l (now (from .entry)) (now (to .entry)) ⌝ }
     ensures { λ r. ⌜ now (to .exit) ≡ writtenIn loading l d (now (from .entry)) (now (to .entry)) ⌝ }
+    ensures { λ r. ⌜ ToldApart (copiedRefusals r) ⌝ }
 {
     let n = l.size as usize;
     if from.len() < n {
@@ -74,6 +77,7 @@ fn copy_in(loading: bool, l: Layout, d: Dealing, from: &[u64], to: &mut [u64]) -
 fn copy_by(m: Mapping, sizes: &[u8], loading: bool, from: &[u64], to: &mut [u64]) -> Copied
     ensures { λ r. ⌜ copiedAs r ≡ copying (copyOf (mappingWith m (now (sizes .entry))) (now (from .entry)) (now (to .entry))) ⌝ }
     ensures { λ r. ⌜ now (to .exit) ≡ written loading (copyOf (mappingWith m (now (sizes .entry))) (now (from .entry)) (now (to .entry))) ⌝ }
+    ensures { λ r. ⌜ ToldApart (copiedRefusals r) ⌝ }
 {
     let listed = list_fits(m, sizes);
     let asked = ask_mapping(m, sizes, listed);
@@ -89,6 +93,7 @@ pub fn save(m: Mapping, sizes: &[u8], storage: &[u64], words: &mut [u64]) -> Cop
     ensures { λ r. ⌜ copiedAs r ≡ copying (copyOf (mappingWith m (now (sizes .entry))) (now (storage .entry)) (now (words .entry))) ⌝ }
     ensures { λ r. ⌜ now (words .exit) ≡ saved (copyOf (mappingWith m (now (sizes .entry))) (now (storage .entry)) (now (words .entry))) ⌝ }
     ensures { λ r. ⌜ now (storage .exit) ≡ now (storage .entry) ⌝ }
+    ensures { λ r. ⌜ ToldApart (copiedRefusals r) ⌝ }
 {
     copy_by(m, sizes, false, storage, words)
 }
@@ -98,6 +103,7 @@ pub fn load(m: Mapping, sizes: &[u8], words: &[u64], storage: &mut [u64]) -> Cop
     ensures { λ r. ⌜ copiedAs r ≡ copying (copyOf (mappingWith m (now (sizes .entry))) (now (words .entry)) (now (storage .entry))) ⌝ }
     ensures { λ r. ⌜ now (storage .exit) ≡ loaded (copyOf (mappingWith m (now (sizes .entry))) (now (words .entry)) (now (storage .entry))) ⌝ }
     ensures { λ r. ⌜ now (words .exit) ≡ now (words .entry) ⌝ }
+    ensures { λ r. ⌜ ToldApart (copiedRefusals r) ⌝ }
 {
     copy_by(m, sizes, true, words, storage)
 }

@@ -7,6 +7,7 @@ ghost use Rattle.model.specs.Sized.{Sized};
 ghost use Rattle.storage.specs.Pacing.{shortPace, longPace, paceOf, lengthAt, firstRun, nextRun, wrappedRun, Paced, Within};
 use mapping::dealing::owner_of;
 use model::Cell;
+use model::Index;
 use model::Layout;
 
 // A run that begins before column `limit` has `many` elements; the next begins `rise` columns
@@ -25,7 +26,7 @@ pub struct Pace {
 // The run of `length` elements from an index on, the column at which its block's elements begin, and
 // its owner; past the last processor the owners begin anew.
 pub struct Run {
-    pub index: usize,
+    pub index: Index,
     pub length: usize,
     pub column: usize,
     pub processor: usize,
@@ -101,7 +102,7 @@ pub fn first_run(l: Layout, p: Pace) -> Run
     let column = l.offset % l.block;
     let begin = (column % l.stride) as usize;
     Run {
-        index: 0,
+        index: Index(0),
         length: length_at(p, begin) - (column / l.stride) as usize,
         column: begin,
         processor: owner_of(l, Cell(l.offset)) as usize,
@@ -113,7 +114,7 @@ pub fn next_run(p: Pace, r: Run, taken: usize) -> Run
     requires { ⌜ Within p r taken ⌝ }
     ensures { λ n. ⌜ n ≡ nextRun p r taken ⌝ }
 {
-    let index = r.index + taken;
+    let index = Index(r.index.0 + taken as u64);
     if r.column < p.limit {
         let column = r.column + p.rise;
         return Run {
@@ -139,7 +140,7 @@ pub fn next_word(p: Pace, r: Run) -> Run
 {
     if p.rise == 0 {
         return Run {
-            index: r.index + 1,
+            index: Index(r.index.0 + 1),
             length: p.many,
             column: r.column,
             processor: r.processor + p.many_on,
@@ -152,13 +153,14 @@ pub fn next_word(p: Pace, r: Run) -> Run
 pub fn wrapped_run(p: Pace, r: Run) -> Run
     ensures { λ n. ⌜ n ≡ wrappedRun p r ⌝ }
 {
+    let index = r.index;
     let processor = if r.processor < p.processors {
         r.processor
     } else {
         r.processor - p.processors
     };
     Run {
-        index: r.index,
+        index,
         length: r.length,
         column: r.column,
         processor,

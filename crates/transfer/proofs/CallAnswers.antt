@@ -1,7 +1,8 @@
 -- What `transfers` answers and leaves in the lists, from the answer to the questions of the pair.
-use Prim.Native.Nat.{ℕ}
+use Prim.Native.Nat.{ℕ, _<_}
 use mathlib.Core.Path.{_≡_, refl, sym, ap, _∙_}
 use mathlib.Core.Bool.{Bool, true, false, cond}
+use native.Mathlib.Nat.{pos-of-ne-zero}
 use native.Mathlib.Omega.{arith}
 use borrow.Author.Tests.{ne-eqb}
 use lib.IntN.{ℤ}
@@ -10,14 +11,24 @@ use Rattle.model.specs.Mappings.{Section}
 use Rattle.model.specs.Ownership.{nat}
 use Rattle.model.specs.Sections.{address}
 use Rattle.model.specs.Questions.{firstNo}
+use Rattle.model.specs.Calls.{ToldApart}
 use Rattle.model.specs.Transfers.{Lists, TransferCall, pairPlaces, placesOf, ofPair, ofRoom, ofTransfer, entriesOf, transfers, withEntries, listsAfter}
 use Rattle.model.proofs.QuestionLaws.{all-yes, asks-on, stops, never}
+use Rattle.transfer.specs.declared.listing.Transferred.the-variants.{Entries, Needs}
 use Rattle.transfer.specs.declared.questions.Pair.{Pair}
 use Rattle.transfer.specs.declared.questions.Paired.the-variants.{By, Refused}
 use Rattle.transfer.specs.Pairs.{pairOf, pairAsked}
-use Rattle.transfer.specs.Answers.{callOf, transferredAs, rising, hasRoom, listedIn, risingLists, listsIn}
+use Rattle.transfer.specs.Answers.{callOf, transferredAs, transferredRefusals, rising, hasRoom, listedIn, risingLists, listsIn}
 use Rattle.transfer.proofs.PairAnswers.{Passed, pair-passed, pair-stopped}
 use Rattle.transfer.proofs.PairLists.{same-places, same-lists}
+
+-- an accepted pair holds no refusal's number
+pub told-by : (p : Pair) (x : Lists) → ToldApart (transferredRefusals (listedIn p x))
+told-by p x = go (hasRoom (length (rising p)) x)
+  where
+    go : (b : Bool) → ToldApart (transferredRefusals (cond b (Entries (length (rising p))) (Needs (length (rising p)))))
+    go true = tt
+    go false = tt
 
 module _ (left right : Section) (q m : ℤ) (x : Lists) where
   abbrev call : TransferCall
@@ -46,6 +57,9 @@ module _ (left right : Section) (q m : ℤ) (x : Lists) where
     pub lists-refused : x ≡ listsAfter call
     unfolding listsAfter
     lists-refused = rw (first, ne-eqb e 0 some)
+
+    pub told-refused : 0 < e
+    told-refused = pos-of-ne-zero some
 
   -- ---- the pair passed
 

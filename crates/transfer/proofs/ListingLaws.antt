@@ -58,13 +58,11 @@ module _ (p : Pair) {n : ℕ} (e : n ≡ length (rising p)) (x : Lists) where
           let o = both-true (ownedBy (p .sender) (getD after i 0)) (ownedBy (p .receiver) (getD after i 0)) (r .passes) in
           (omega (arith, r .below), o .0, o .1)
 
-      pub of-sender : (l : List ℕ) → n ≤ length l → Addressable (p .sender) after n l
-      of-sender l k =
-          record { accepted = f .first; there = there; room = k; below = λ i b. in-both i b .0; owned = λ i b. in-both i b .1 }
-
-      pub of-receiver : (l : List ℕ) → n ≤ length l → Addressable (p .receiver) after n l
-      of-receiver l k =
-          record { accepted = f .second; there = there; room = k; below = λ i b. rw (f .counts) (in-both i b .0); owned = λ i b. in-both i b .2 }
+      pub of-either : (l : List ℕ) → n ≤ length l → Addressable (p .sender) after n l × Addressable (p .receiver) after n l
+      of-either l k = (
+        record { accepted = f .first; there = there; room = k; below = λ i b. in-both i b .0; owned = λ i b. in-both i b .1 },
+        record { accepted = f .second; there = there; room = k; below = λ i b. rw (f .counts) (in-both i b .0); owned = λ i b. in-both i b .2 },
+      )
 
     -- the lists, in rising order
     pub all-listed : (sent received : List ℕ)

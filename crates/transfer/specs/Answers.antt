@@ -1,7 +1,7 @@
 -- The answer of `transfers`, each case read as document 01's numbers, and the lists of a pair. Definitions only.
 use Prim.Native.Nat.{ℕ}
 use mathlib.Core.Bool.{Bool, cond, _&&_}
-use mathlib.Core.List.{List}
+use mathlib.Core.List.{List, [], _∷_}
 use lib.Dec.{leb}
 use lib.IntN.{ℤ}
 use lib.ListN.{length}
@@ -23,6 +23,12 @@ abbrev pub transferredAs : Transferred → TransferAnswer
 transferredAs (Entries n) = record { refusal = 0; entries = n; needed = 0 }
 transferredAs (Needs n) = record { refusal = 13; entries = 0; needed = n }
 transferredAs (Refused e) = record { refusal = e; entries = 0; needed = 0 }
+
+-- the numbers of the refusals that it holds, if any
+abbrev pub transferredRefusals : Transferred → List ℕ
+transferredRefusals (Entries n) = []
+transferredRefusals (Needs n) = []
+transferredRefusals (Refused e) = e ∷ []
 
 -- ---- an accepted pair
 

@@ -3,8 +3,9 @@
 // receiver's elements, whichever are fewer, and listing.rt writes what is found.
 ghost use mathlib.Core.Path.{_≡_};
 ghost use Rattle.model.specs.Mappings.{sectionWith};
+ghost use Rattle.model.specs.Calls.{ToldApart};
 ghost use Rattle.model.specs.Transfers.{transfers, listsAfter};
-ghost use Rattle.transfer.specs.Answers.{callOf, transferredAs, listsOf};
+ghost use Rattle.transfer.specs.Answers.{callOf, transferredAs, transferredRefusals, listsOf};
 use listing::Transferred;
 use listing::list_pair;
 use model::Section;
@@ -35,6 +36,7 @@ pub fn transfers(
     ensures { λ r. ⌜ listsOf (now (positions .exit)) (now (sent .exit)) (now (received .exit))
         ≡ listsAfter (callOf (sectionWith left (now («left_sizes» .entry))) (sectionWith right (now («right_sizes» .entry))) sender receiver
         (listsOf (now (positions .entry)) (now (sent .entry)) (now (received .entry)))) ⌝ }
+    ensures { λ r. ⌜ ToldApart (transferredRefusals r) ⌝ }
 {
     match ask_pair(left, left_sizes, right, right_sizes, sender, receiver) {
         Paired::By(p) => list_pair(p, positions, sent, received),

@@ -30,7 +30,7 @@ shifted false i n = i - n
 
 -- the element at a place, and its local address
 unfoldable pub elementAt : Elements → ℕ → ℕ
-elementAt e t = shifted (e .upward) (e .first) (t * e .stride)
+elementAt e t = shifted (e .upward) (e .first .0) (t * e .stride)
 
 unfoldable pub addressAt : Elements → ℕ → ℕ
 addressAt e t = rank (ownerOf (e .layout)) (elementAt e t)
@@ -40,7 +40,7 @@ pub record Placed (e : Elements) (count : ℕ) : Type 0 where
   pub sized : Sized (e .layout)
   pub few : count < 2147483648
   pub stride : e .stride < 2147483648
-  pub falls : e .upward ≡ false → (t : ℕ) → t < count → t * e .stride ≤ e .first
+  pub falls : e .upward ≡ false → (t : ℕ) → t < count → t * e .stride ≤ e .first .0
   pub inside : (t : ℕ) → t < count → elementAt e t < e .layout .size
 
 -- Columns that lie one alignment stride apart in a block move alike along each step. A shorter block has no such columns.

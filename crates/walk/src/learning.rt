@@ -15,7 +15,7 @@ ghost use Rattle.walk.specs.Learning.{elementAt, addressAt, Placed, peri
 // first - t * stride.
 pub struct Elements {
     pub layout: Layout,
-    pub first: u64,
+    pub first: Index,
     pub stride: u64,
     pub upward: bool,
 }
@@ -36,9 +36,9 @@ fn element_at(e: Elements, count: u64, t: Position) -> Index
 {
     let far = t.0 * e.stride;
     if e.upward {
-        return Index(e.first + far);
+        return Index(e.first.0 + far);
     }
-    Index(e.first - far)
+    Index(e.first.0 - far)
 }
 
 // Its local address.

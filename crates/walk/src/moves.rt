@@ -2,6 +2,7 @@
 // and both directions: going down, columns count from the end of a block, and an address
 // falls by what is added modulo 2^32.
 use model::Address;
+use model::LEAST_TRIES;
 use model::Position;
 ghost use mathlib.Core.Path.{_≡_};
 ghost use Prim.Native.Nat.{_+_, _*_, _<_, _≤_};
@@ -100,7 +101,8 @@ pub(crate) fn stop_at(count: u64, s: State) -> State
     }
 }
 
-// The lesser of two numbers, which is some where both are.
+// The lesser of two numbers, which is some where both are. No more is said of it: callers count turns
+// that are surely made, and fewer would only cost more bursts.
 pub fn least(a: u64, b: u64) -> u64
     ensures { λ r. ⌜ (r ≤ a) × (r ≤ b) × ((0 < a) → (0 < b) → 0 < r) ⌝ }
 {
@@ -112,7 +114,7 @@ pub(crate) fn has_ended(count: u64, quota: u64, s: State) -> bool
     requires { ⌜ s .paid ≤ quota ⌝ }
     ensures { λ r. ⌜ r ≡ hasEnded count quota s ⌝ }
 {
-    s.place.0 == count || quota - s.paid < 3
+    s.place.0 == count || quota - s.paid < LEAST_TRIES
 }
 
 // What a fill that came to state s with so many entries returns.
@@ -141,5 +143,5 @@ pub(crate) fn paid_turns(quota: u64, paid: u64, room: usize) -> usize
     requires { ⌜ (paid + 3 ≤ quota) × (0 < room) ⌝ }
     ensures { λ r. ⌜ (0 < r) × (r ≤ room) × (paid + 3 * r ≤ quota) ⌝ }
 {
-    least((quota - paid) / 3, room as u64) as usize
+    least((quota - paid) / LEAST_TRIES, room as u64) as usize
 }

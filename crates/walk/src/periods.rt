@@ -3,6 +3,7 @@ use crate::moves::Made;
 use crate::moves::Moves;
 use crate::moves::State;
 use crate::moves::{self};
+use model::LEAST_TRIES;
 use numbers::gcd;
 ghost use mathlib.Core.Path.{_≡_};
 ghost use Prim.Native.Nat.{_+_, _≤_, _<_};
@@ -35,7 +36,7 @@ pub fn steps_until(m: Moves, count: u64, quota: u64, start: State, most: usize) 
         if count <= s.place.0 {
             break;
         }
-        if quota - s.paid < 3 {
+        if quota - s.paid < LEAST_TRIES {
             break;
         }
         s = moves::step(m, s);

@@ -3,7 +3,7 @@ use mathlib.Core.Path.{_≡_, sym, _∙_, subst}
 use borrow.Author.Needs.{needs}
 use Rattle.model.specs.Mappings.{Section, sectionWith}
 use Rattle.fill.specs.Ready.{readyOf, SoundReady}
-use Rattle.fill.proofs.FillAnswers.{of-parameters, taken, fill-done, fill-refused}
+use Rattle.fill.proofs.FillAnswers.{of-parameters, taken, told-apart, fill-done, fill-refused}
 use Rattle.fill.proofs.fill.Statement.{statement}
 use Rattle.fill.proofs.fill.Tie as tie
 
@@ -42,14 +42,17 @@ returns c =
     let arm = filled .before .before .before in
     let asked = arm .before .before in
     let s : tie.Start = asked .before .before .before in
-    fill-done (asked-of s) (s .args .processor) (s .args .place) (s .args .quota) _ _ _ _ (sym (answered asked) ∙ arm .s .given .1) (filled .fill-from .ensures)
+    (fill-done (asked-of s) (s .args .processor) (s .args .place) (s .args .quota) _ _ _ _ (sym (answered asked) ∙ arm .s .given .1) (filled .fill-from .ensures), tt)
 
 returns-2 : tie.Need-returns-2
 returns-2 c =
     let arm = c .before in
     let asked = arm .before .before in
     let s : tie.Start = asked .before .before .before in
-    fill-refused (asked-of s) (s .args .processor) (s .args .place) (s .args .quota) _ _ (sym (answered asked) ∙ arm .e .given .1)
+    let no = sym (answered asked) ∙ arm .e .given .1 in (
+      fill-refused (asked-of s) (s .args .processor) (s .args .place) (s .args .quota) _ _ no,
+      told-apart (asked-of s) (s .args .processor) (s .args .place) (s .args .quota) _ no,
+    )
 
 pub fill-spec : {M : Type 1} → statement M
 fill-spec =

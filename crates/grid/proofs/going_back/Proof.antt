@@ -4,7 +4,7 @@ use borrow.Author.Needs.{needs}
 use mir.Syntax.{w64}
 use mir.ValLaws.{toZ-ofZ}
 use Rattle.grid.specs.Answers.{goingBackOn}
-use Rattle.grid.proofs.CallLaws.{known-by, going-back-by, going-back-refused}
+use Rattle.grid.proofs.CallLaws.{known-by, told-apart, going-back-by, going-back-refused}
 use Rattle.grid.proofs.going_back.Statement.{statement}
 use Rattle.grid.proofs.going_back.Tie as tie
 
@@ -31,10 +31,12 @@ returns c =
     let s : tie.Start = asked .before .before .before .before in
     let a = s .args in
     let q = toZ-ofZ w64 (a .processor) (s .fits .processor) in
-    let x = toZ-ofZ w64 (a .address) (s .fits .address) in
-    c .found-on .ensures
-    ∙ (λ t. goingBackOn (arm .x .given .0 .0) (a .b .now) (a .c .now) (a .d .now) (q t) (x t))
-    ∙ going-back-by (a .g) (a .b .now) (a .c .now) (a .d .now) _ (sym (asked .ask-grid .ensures) ∙ arm .x .given .1) (a .processor) (a .address)
+    let x = toZ-ofZ w64 (a .address) (s .fits .address) in (
+      c .found-on .ensures .0
+          ∙ (λ t. goingBackOn (arm .x .given .0 .0) (a .b .now) (a .c .now) (a .d .now) (q t) (x t))
+          ∙ going-back-by (a .g) (a .b .now) (a .c .now) (a .d .now) _ (sym (asked .ask-grid .ensures) ∙ arm .x .given .1) (a .processor) (a .address),
+      c .found-on .ensures .1,
+    )
 
 returns-2 : tie.Need-returns-2
 returns-2 c =
@@ -42,7 +44,11 @@ returns-2 c =
     let asked = arm .before .before in
     let s : tie.Start = asked .before .before .before .before in
     let a = s .args in
-    going-back-refused (a .g) (a .b .now) (a .c .now) (a .d .now) (arm .e .given .0 .0) (sym (asked .ask-grid .ensures) ∙ arm .e .given .1) (a .processor) (a .address)
+    let e = arm .e .given .0 .0 in
+    let r = sym (asked .ask-grid .ensures) ∙ arm .e .given .1 in (
+      going-back-refused (a .g) (a .b .now) (a .c .now) (a .d .now) e r (a .processor) (a .address),
+      told-apart (a .g) (a .b .now) (a .c .now) (a .d .now) e r,
+    )
 
 pub going-back-spec : {M : Type 1} → statement M
 going-back-spec =

@@ -8,7 +8,7 @@ use mir.Syntax.{w64}
 use mir.Val.{SFits}
 use mir.ValLaws.{toZ-ofZ}
 use Rattle.grid.specs.Answers.{indicesFrom, ownershipOn}
-use Rattle.grid.proofs.CallLaws.{known-by, ownership-by, ownership-refused}
+use Rattle.grid.proofs.CallLaws.{known-by, told-apart, ownership-by, ownership-refused}
 use Rattle.grid.proofs.ownership.Statement.{statement}
 use Rattle.grid.proofs.ownership.Tie as tie
 
@@ -53,11 +53,13 @@ returns c =
     let w = toZ-ofZ w64 (a .third) (s .fits .third) in
     let k =
     toZ-ofZ w64 (third .index-to2 .result) (record { sfits = third .index-to2 .ok }) ∙ third .index-to2 .ensures
-    ∙ (λ t. cond (leZ (pos 3) (r t)) (w t) (pos 0)) in
-    c .owned-on .ensures
-    ∙ (λ t. ownershipOn (arm .x .given .0 .0) (a .b .now) (a .c .now) (a .d .now) (i t) (j t) (k t))
-    ∙ ownership-by (a .g) (a .b .now) (a .c .now) (a .d .now) _ (sym (asked .ask-grid .ensures) ∙ arm .x .given .1)
-    (indicesFrom (a .first) (a .second) (a .third))
+    ∙ (λ t. cond (leZ (pos 3) (r t)) (w t) (pos 0)) in (
+      c .owned-on .ensures .0
+          ∙ (λ t. ownershipOn (arm .x .given .0 .0) (a .b .now) (a .c .now) (a .d .now) (i t) (j t) (k t))
+          ∙ ownership-by (a .g) (a .b .now) (a .c .now) (a .d .now) _ (sym (asked .ask-grid .ensures) ∙ arm .x .given .1)
+          (indicesFrom (a .first) (a .second) (a .third)),
+      c .owned-on .ensures .1,
+    )
 
 returns-2 : tie.Need-returns-2
 returns-2 c =
@@ -65,8 +67,11 @@ returns-2 c =
     let asked = arm .before .before in
     let s : tie.Start = asked .before .before .before .before .before .before .before .before in
     let a = s .args in
-    ownership-refused (a .g) (a .b .now) (a .c .now) (a .d .now) (arm .e .given .0 .0) (sym (asked .ask-grid .ensures) ∙ arm .e .given .1)
-    (indicesFrom (a .first) (a .second) (a .third))
+    let e = arm .e .given .0 .0 in
+    let r = sym (asked .ask-grid .ensures) ∙ arm .e .given .1 in (
+      ownership-refused (a .g) (a .b .now) (a .c .now) (a .d .now) e r (indicesFrom (a .first) (a .second) (a .third)),
+      told-apart (a .g) (a .b .now) (a .c .now) (a .d .now) e r,
+    )
 
 pub ownership-spec : {M : Type 1} → statement M
 ownership-spec =

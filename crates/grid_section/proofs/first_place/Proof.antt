@@ -32,19 +32,23 @@ returns c =
     let arm = c .before .before in
     let asked = arm .before .before in
     let s : tie.Start = asked .before .before .before .before in
-    let y = arm .s .given .0 .0 in
-    c .placed-on .ensures
-    ∙ ap (firstPlaceOn y (s .args .b .now) (s .args .c .now) (s .args .d .now)) (toZ-ofZ w64 (s .args .processor) (s .fits .processor))
-    ∙ place-by (s .args .x) (s .args .b .now) (s .args .c .now) (s .args .d .now) (s .args .processor) y
-    (sym (asked .ask-lines .ensures .0) ∙ arm .s .given .1)
+    let y = arm .s .given .0 .0 in (
+      c .placed-on .ensures .0
+          ∙ ap (firstPlaceOn y (s .args .b .now) (s .args .c .now) (s .args .d .now)) (toZ-ofZ w64 (s .args .processor) (s .fits .processor))
+          ∙ place-by (s .args .x) (s .args .b .now) (s .args .c .now) (s .args .d .now) (s .args .processor) y
+          (sym (asked .ask-lines .ensures .0) ∙ arm .s .given .1),
+      c .placed-on .ensures .1,
+    )
 
 returns-2 : tie.Need-returns-2
 returns-2 c =
     let arm = c .before in
     let asked = arm .before .before in
-    let s : tie.Start = asked .before .before .before .before in
-    place-refused (s .args .x) (s .args .b .now) (s .args .c .now) (s .args .d .now) (s .args .processor) _
-    (sym (asked .ask-lines .ensures .0) ∙ arm .e .given .1)
+    let s : tie.Start = asked .before .before .before .before in (
+      place-refused (s .args .x) (s .args .b .now) (s .args .c .now) (s .args .d .now) (s .args .processor) _
+          (sym (asked .ask-lines .ensures .0) ∙ arm .e .given .1),
+      (subst Sound (arm .e .given .1) (asked .ask-lines .ensures .1), tt),
+    )
 
 pub first-place-spec : {M : Type 1} → statement M
 first-place-spec =

@@ -23,16 +23,20 @@ returns : tie.Need-returns
 returns c =
     let arm = c .before .before in
     let asked = arm .before .before in
-    let s : tie.Start = asked .before .before .before .before in
-    c .steps-on .ensures
-    ∙ steps-by (s .args .x) (s .args .b .now) (s .args .c .now) (s .args .d .now) _ (sym (asked .ask-lines .ensures .0) ∙ arm .s .given .1)
+    let s : tie.Start = asked .before .before .before .before in (
+      c .steps-on .ensures .0
+          ∙ steps-by (s .args .x) (s .args .b .now) (s .args .c .now) (s .args .d .now) _ (sym (asked .ask-lines .ensures .0) ∙ arm .s .given .1),
+      c .steps-on .ensures .1,
+    )
 
 returns-2 : tie.Need-returns-2
 returns-2 c =
     let arm = c .before in
     let asked = arm .before .before in
-    let s : tie.Start = asked .before .before .before .before in
-    steps-refused (s .args .x) (s .args .b .now) (s .args .c .now) (s .args .d .now) _ (sym (asked .ask-lines .ensures .0) ∙ arm .e .given .1)
+    let s : tie.Start = asked .before .before .before .before in (
+      steps-refused (s .args .x) (s .args .b .now) (s .args .c .now) (s .args .d .now) _ (sym (asked .ask-lines .ensures .0) ∙ arm .e .given .1),
+      (subst Sound (arm .e .given .1) (asked .ask-lines .ensures .1), tt),
+    )
 
 pub section-steps-spec : {M : Type 1} → statement M
 section-steps-spec =

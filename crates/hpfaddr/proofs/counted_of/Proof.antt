@@ -23,7 +23,7 @@ mapping s = mappingWith (s .args .m) (s .args .sizes .now)
 answer : (c : tie.After-local-count) → let s : tie.Start = c .before .before in countedAs (c .local-count .result) ≡ localCount (mapping s) (s .args .processor)
 answer c =
     let s = c .before .before in
-    c .local-count .ensures ∙ (λ i. localCount (mapping s) (toZ-ofZ w64 (s .args .processor) (s .fits .processor) i))
+    c .local-count .ensures .0 ∙ (λ i. localCount (mapping s) (toZ-ofZ w64 (s .args .processor) (s .fits .processor) i))
 
 enum-known-n : tie.Need-enum-known-n
 enum-known-n c = search needs

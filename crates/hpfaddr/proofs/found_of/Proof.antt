@@ -26,7 +26,7 @@ mapping s = mappingWith (s .args .m) (s .args .sizes .now)
 answer : (c : tie.After-going-back) → let s : tie.Start = c .before .before in foundAs (c .going-back .result) ≡ goingBack (mapping s) (s .args .processor) (s .args .address)
 answer c =
     let s = c .before .before in
-    c .going-back .ensures ∙ (λ i. goingBack (mapping s) (toZ-ofZ w64 (s .args .processor) (s .fits .processor) i) (toZ-ofZ w64 (s .args .address) (s .fits .address) i))
+    c .going-back .ensures .0 ∙ (λ i. goingBack (mapping s) (toZ-ofZ w64 (s .args .processor) (s .fits .processor) i) (toZ-ofZ w64 (s .args .address) (s .fits .address) i))
 
 enum-known-j : tie.Need-enum-known-j
 enum-known-j c = search needs

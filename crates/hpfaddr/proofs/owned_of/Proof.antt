@@ -22,7 +22,7 @@ mapping s = mappingWith (s .args .m) (s .args .sizes .now)
 answer : (c : tie.After-ownership) → let s : tie.Start = c .before .before in ownedAs (c .ownership .result) ≡ ownership (mapping s) (s .args .index)
 answer c =
     let s = c .before .before in
-    c .ownership .ensures ∙ (λ i. ownership (mapping s) (toZ-ofZ w64 (s .args .index) (s .fits .index) i))
+    c .ownership .ensures .0 ∙ (λ i. ownership (mapping s) (toZ-ofZ w64 (s .args .index) (s .fits .index) i))
 
 fields-of-requires : tie.Need-fields-of-requires
 fields-of-requires c κs = with-size OwnedFits (answer c) (ownership-small _ _) .1

@@ -1,6 +1,7 @@
 -- `counted_in` meets its contract.
 use mathlib.Core.Path.{_≡_}
 use mathlib.Core.Bool.{true}
+use native.Mathlib.Omega.{arith}
 use borrow.Author.Needs.{needs}
 use lib.IntN.{pos}
 use mir.Syntax.{w64}
@@ -22,7 +23,7 @@ returns : tie.Need-returns
 unfolding localCountIn
 returns c =
     let s = c .before .before .before in
-    rw (said-no (isBelow (pos (s .args .l .processors))) (s .args .processor) (s .fits .processor) (c .before .is-below .ensures) (c .if1 .taken))
+    (rw (said-no (isBelow (pos (s .args .l .processors))) (s .args .processor) (s .fits .processor) (c .before .is-below .ensures) (c .if1 .taken)), (omega arith, tt))
 
 natural-requires : tie.Need-natural-requires
 natural-requires c κs = search needs
@@ -52,7 +53,7 @@ returns-2 c =
     let q = read-of w64 nat (s .args .processor) (s .fits .processor) (n .natural .ensures) in
     let d = dealingWith (s .args .d) (s .args .sizes .now) in
     let held = held-part (s .args .l) (s .pre .0) d (covered (s .args .l) (s .pre .0) d (s .pre .1)) (n .natural .result) in
-    rw (is-processor (n .before)) (cc (c .elements-in .ensures, part .part-of .ensures .0, held, q))
+    (rw (is-processor (n .before)) (cc (c .elements-in .ensures, part .part-of .ensures .0, held, q)), tt)
 
 pub counted-in-spec : {M : Type 1} → statement M
 counted-in-spec =

@@ -29,7 +29,7 @@ returns : tie.Need-returns
 unfolding goingBackIn
 returns c =
     let s = c .before .before .before in
-    rw (said-no (isBelow (pos (s .args .l .processors))) (s .args .processor) (s .fits .processor) (c .before .is-below .ensures) (c .if1 .taken))
+    (rw (said-no (isBelow (pos (s .args .l .processors))) (s .args .processor) (s .fits .processor) (c .before .is-below .ensures) (c .if1 .taken)), (omega arith, tt))
 
 natural-requires : tie.Need-natural-requires
 natural-requires c κs = search needs
@@ -82,10 +82,9 @@ unfolding goingBackIn
 returns-2 c =
     let called = c .before .before in
     let s = begun called in
-    rw (
-      is-processor (called .before .before .before),
-      sym (ap (λ (n : ℕ). isBelow (pos n) (s .args .address)) (elements called))
-          ∙ said-no (isBelow (pos (called .elements-in .result))) (s .args .address) (s .fits .address) (c .before .is-below2 .ensures) (c .if2 .taken),
+    let asked = said-no (isBelow (pos (called .elements-in .result))) (s .args .address) (s .fits .address) (c .before .is-below2 .ensures) (c .if2 .taken) in (
+      rw (is-processor (called .before .before .before), sym (ap (λ (n : ℕ). isBelow (pos n) (s .args .address)) (elements called)) ∙ asked),
+      (omega arith, tt),
     )
 
 natural-requires-2 : tie.Need-natural-requires-2
@@ -148,12 +147,12 @@ module _ (c : tie.After-element-in) where
   index-fits =
       small-fits w64 index (omega (arith, low, size-add (start .args .lower) (pos (c .element-in .result .0)), start .pre .0 .1))
 
-cast-t16 : tie.Need-cast-t16
-cast-t16 c = small-fits w64 (pos (c .before .element-in .result .0)) (omega (arith, low (c .before)))
+cast-j : tie.Need-cast-j
+cast-j c = small-fits w64 (pos (c .before .element-in .result .0)) (omega (arith, low (c .before)))
 
-add-t17 : tie.Need-add-t17
+add-j : tie.Need-add-j
 unfolding index
-add-t17 c = let e = c .before in fits-as w64 (sum e) (index-fits e)
+add-j c = let e = c .before in fits-as w64 (sum e) (index-fits e)
 
 returns-3 : tie.Need-returns-3
 unfolding goingBackIn index
@@ -162,12 +161,8 @@ returns-3 c =
     let s = start e in
     let q = read-of w64 nat (s .args .processor) (s .fits .processor) (called e .before .before .natural .ensures) in
     let x = read-of w64 nat (s .args .address) (s .fits .address) (e .before .natural2 .ensures) in
-    rw (
-      is-processor (called e .before .before .before),
-      sym (ap (λ (n : ℕ). isBelow (pos n) (s .args .address)) (elements (called e))) ∙ is-address (e .before .before),
-      back-as w64 (sum e) (index-fits e),
-    )
-    (cc (found e, q, x))
+    let asked = sym (ap (λ (n : ℕ). isBelow (pos n) (s .args .address)) (elements (called e))) ∙ is-address (e .before .before) in
+    (rw (is-processor (called e .before .before .before), asked, back-as w64 (sum e) (index-fits e)) (cc (found e, q, x)), tt)
 
 pub found-in-spec : {M : Type 1} → statement M
 found-in-spec =
@@ -182,6 +177,6 @@ found-in-spec =
     returns-2
     natural-requires-2
     element-in-requires
-    cast-t16
-    add-t17
+    cast-j
+    add-j
     returns-3)

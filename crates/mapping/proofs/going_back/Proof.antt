@@ -1,5 +1,6 @@
 -- `going_back` meets its contract.
 use mathlib.Core.Path.{sym, ap, subst, _∙_}
+use native.Mathlib.Omega.{arith}
 use borrow.Author.Needs.{needs}
 use mir.Syntax.{w64}
 use mir.ValLaws.{toZ-ofZ}
@@ -31,8 +32,11 @@ returns c =
     let told = c .before .enum-told .given in
     let asked = c .before .before .before in
     let s = asked .before .before .before in
-    ap notFound (c .refusal-of .ensures ∙ ap refusalIn (told .1))
-    ∙ going-back-refused (mappingWith (s .args .m) (s .args .sizes .now)) _ (sym (asked .ask-mapping .ensures .0) ∙ told .1) (s .args .processor) (s .args .address)
+    let number = c .refusal-of .ensures ∙ ap refusalIn (told .1) in (
+      ap notFound number
+          ∙ going-back-refused (mappingWith (s .args .m) (s .args .sizes .now)) _ (sym (asked .ask-mapping .ensures .0) ∙ told .1) (s .args .processor) (s .args .address),
+      (omega (arith, number, subst Sound (told .1) (asked .ask-mapping .ensures .1)), tt),
+    )
 
 found-in-requires : tie.Need-found-in-requires
 found-in-requires c κs =
@@ -49,10 +53,12 @@ returns-2 c =
     let s = asked .before .before .before in
     let m = mappingWith (s .args .m) (s .args .sizes .now) in
     let sound = subst Sound (known .1) (asked .ask-mapping .ensures .1) in
-    let lower = bound-read (known .0 .1 .0) (sound .1) in
-    c .found-in .ensures
-    ∙ (λ i. goingBackIn (ownerFor (known .0 .0) (m .dealing)) (known .0 .0) (lower i) (toZ-ofZ w64 (s .args .processor) (s .fits .processor) i) (toZ-ofZ w64 (s .args .address) (s .fits .address) i))
-    ∙ going-back-by m _ _ (sym (asked .ask-mapping .ensures .0) ∙ known .1) (s .args .processor) (s .args .address)
+    let lower = bound-read (known .0 .1 .0) (sound .1) in (
+      c .found-in .ensures .0
+          ∙ (λ i. goingBackIn (ownerFor (known .0 .0) (m .dealing)) (known .0 .0) (lower i) (toZ-ofZ w64 (s .args .processor) (s .fits .processor) i) (toZ-ofZ w64 (s .args .address) (s .fits .address) i))
+          ∙ going-back-by m _ _ (sym (asked .ask-mapping .ensures .0) ∙ known .1) (s .args .processor) (s .args .address),
+      c .found-in .ensures .1,
+    )
 
 pub going-back-spec : {M : Type 1} → statement M
 going-back-spec =

@@ -1,5 +1,6 @@
 -- `local_count` meets its contract.
 use mathlib.Core.Path.{sym, ap, subst, _∙_}
+use native.Mathlib.Omega.{arith}
 use borrow.Author.Needs.{needs}
 use mir.Syntax.{w64}
 use mir.ValLaws.{toZ-ofZ}
@@ -30,8 +31,11 @@ returns c =
     let told = c .before .enum-told .given in
     let asked = c .before .before .before in
     let s = asked .before .before .before in
-    ap notCounted (c .refusal-of .ensures ∙ ap refusalIn (told .1))
-    ∙ local-count-refused (mappingWith (s .args .m) (s .args .sizes .now)) _ (sym (asked .ask-mapping .ensures .0) ∙ told .1) (s .args .processor)
+    let number = c .refusal-of .ensures ∙ ap refusalIn (told .1) in (
+      ap notCounted number
+          ∙ local-count-refused (mappingWith (s .args .m) (s .args .sizes .now)) _ (sym (asked .ask-mapping .ensures .0) ∙ told .1) (s .args .processor),
+      (omega (arith, number, subst Sound (told .1) (asked .ask-mapping .ensures .1)), tt),
+    )
 
 counted-in-requires : tie.Need-counted-in-requires
 counted-in-requires c κs =
@@ -45,10 +49,12 @@ returns-2 c =
     let known = c .before .before .asked .given in
     let asked = c .before .before .before .before in
     let s = asked .before .before .before in
-    let m = mappingWith (s .args .m) (s .args .sizes .now) in
-    c .counted-in .ensures
-    ∙ (λ i. localCountIn (ownerFor (known .0 .0) (m .dealing)) (known .0 .0) (toZ-ofZ w64 (s .args .processor) (s .fits .processor) i))
-    ∙ local-count-by m _ _ (sym (asked .ask-mapping .ensures .0) ∙ known .1) (s .args .processor)
+    let m = mappingWith (s .args .m) (s .args .sizes .now) in (
+      c .counted-in .ensures .0
+          ∙ (λ i. localCountIn (ownerFor (known .0 .0) (m .dealing)) (known .0 .0) (toZ-ofZ w64 (s .args .processor) (s .fits .processor) i))
+          ∙ local-count-by m _ _ (sym (asked .ask-mapping .ensures .0) ∙ known .1) (s .args .processor),
+      c .counted-in .ensures .1,
+    )
 
 pub local-count-spec : {M : Type 1} → statement M
 local-count-spec =

@@ -43,7 +43,7 @@ asked c =
 
 returns : tie.Need-returns
 unfolding ownershipIn
-returns c = rw (sym (asked (c .before)) ∙ not-true _ (c .if1 .taken))
+returns c = (rw (sym (asked (c .before)) ∙ not-true _ (c .if1 .taken)), (omega arith, tt))
 
 module _ (c : tie.Else1) where
   abbrev start : tie.Start
@@ -86,7 +86,7 @@ unfolding ownershipIn
 returns-2 c =
     let home = c .before in
     let n = home .before in
-    rw (is-index (n .before)) (cc (home .home-of .ensures .0, home .home-of .ensures .1, counted n))
+    (rw (is-index (n .before)) (cc (home .home-of .ensures .0, home .home-of .ensures .1, counted n)), tt)
 
 pub owned-in-spec : {M : Type 1} → statement M
 owned-in-spec =

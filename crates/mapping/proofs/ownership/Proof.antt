@@ -1,5 +1,6 @@
 -- `ownership` meets its contract.
 use mathlib.Core.Path.{sym, ap, subst, _∙_}
+use native.Mathlib.Omega.{arith}
 use borrow.Author.Needs.{needs}
 use mir.Syntax.{w64}
 use mir.ValLaws.{toZ-ofZ}
@@ -31,8 +32,11 @@ returns c =
     let told = c .before .enum-told .given in
     let asked = c .before .before .before in
     let s = asked .before .before .before in
-    ap noOwner (c .refusal-of .ensures ∙ ap refusalIn (told .1))
-    ∙ ownership-refused (mappingWith (s .args .m) (s .args .sizes .now)) _ (sym (asked .ask-mapping .ensures .0) ∙ told .1) (s .args .index)
+    let number = c .refusal-of .ensures ∙ ap refusalIn (told .1) in (
+      ap noOwner number
+          ∙ ownership-refused (mappingWith (s .args .m) (s .args .sizes .now)) _ (sym (asked .ask-mapping .ensures .0) ∙ told .1) (s .args .index),
+      (omega (arith, number, subst Sound (told .1) (asked .ask-mapping .ensures .1)), tt),
+    )
 
 owned-in-requires : tie.Need-owned-in-requires
 owned-in-requires c κs =
@@ -49,10 +53,12 @@ returns-2 c =
     let s = asked .before .before .before in
     let m = mappingWith (s .args .m) (s .args .sizes .now) in
     let sound = subst Sound (known .1) (asked .ask-mapping .ensures .1) in
-    let lower = bound-read (known .0 .1 .0) (sound .1) in
-    c .owned-in .ensures
-    ∙ (λ i. ownershipIn (ownerFor (known .0 .0) (m .dealing)) (known .0 .0) (lower i) (toZ-ofZ w64 (s .args .index) (s .fits .index) i))
-    ∙ ownership-by m _ _ (sym (asked .ask-mapping .ensures .0) ∙ known .1) (s .args .index)
+    let lower = bound-read (known .0 .1 .0) (sound .1) in (
+      c .owned-in .ensures .0
+          ∙ (λ i. ownershipIn (ownerFor (known .0 .0) (m .dealing)) (known .0 .0) (lower i) (toZ-ofZ w64 (s .args .index) (s .fits .index) i))
+          ∙ ownership-by m _ _ (sym (asked .ask-mapping .ensures .0) ∙ known .1) (s .args .index),
+      c .owned-in .ensures .1,
+    )
 
 pub ownership-spec : {M : Type 1} → statement M
 ownership-spec =

@@ -34,15 +34,21 @@ returns c =
     let s : tie.Start = asked .before .before .before in
     let w = arm .w .given .0 .0 in
     let x = sectionWith (s .args .x) (s .args .sizes .now) in
-    c .placed-in .ensures ∙ ap (firstPlaceIn w (x .mapping .dealing)) (toZ-ofZ w64 (s .args .processor) (s .fits .processor))
-    ∙ place-by x (s .args .processor) w (sym (asked .ask-section .ensures .0) ∙ arm .w .given .1)
+    let read = toZ-ofZ w64 (s .args .processor) (s .fits .processor) in (
+      c .placed-in .ensures .0 ∙ ap (firstPlaceIn w (x .mapping .dealing)) read
+          ∙ place-by x (s .args .processor) w (sym (asked .ask-section .ensures .0) ∙ arm .w .given .1),
+      c .placed-in .ensures .1,
+    )
 
 returns-2 : tie.Need-returns-2
 returns-2 c =
     let arm = c .before in
     let asked = arm .before .before in
     let s : tie.Start = asked .before .before .before in
-    place-refused (sectionWith (s .args .x) (s .args .sizes .now)) (s .args .processor) (arm .q .given .0 .0) (sym (asked .ask-section .ensures .0) ∙ arm .q .given .1)
+    let x = sectionWith (s .args .x) (s .args .sizes .now) in (
+      place-refused x (s .args .processor) (arm .q .given .0 .0) (sym (asked .ask-section .ensures .0) ∙ arm .q .given .1),
+      (subst Sound (arm .q .given .1) (asked .ask-section .ensures .1), tt),
+    )
 
 pub first-place-spec : {M : Type 1} → statement M
 first-place-spec =

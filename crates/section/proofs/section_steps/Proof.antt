@@ -50,15 +50,21 @@ returns c =
     let w = arm .w .given .0 .0 in
     let s : tie.Start = asked .before .before .before in
     let x = sectionWith (s .args .x) (s .args .sizes .now) in
-    c .report-of .ensures ∙ ap (stepsReport (w .count)) (c .before .steps-by .ensures ∙ same-steps w (s .args .x .mapping .dealing) (s .args .sizes .now))
-    ∙ steps-by x w (sym (asked .ask-section .ensures .0) ∙ arm .w .given .1)
+    let found = c .before .steps-by .ensures ∙ same-steps w (s .args .x .mapping .dealing) (s .args .sizes .now) in (
+      c .report-of .ensures .0 ∙ ap (stepsReport (w .count)) found
+          ∙ steps-by x w (sym (asked .ask-section .ensures .0) ∙ arm .w .given .1),
+      c .report-of .ensures .1,
+    )
 
 returns-2 : tie.Need-returns-2
 returns-2 c =
     let arm = c .before in
     let asked = arm .before .before in
     let s : tie.Start = asked .before .before .before in
-    steps-refused (sectionWith (s .args .x) (s .args .sizes .now)) (arm .q .given .0 .0) (sym (asked .ask-section .ensures .0) ∙ arm .q .given .1)
+    let x = sectionWith (s .args .x) (s .args .sizes .now) in (
+      steps-refused x (arm .q .given .0 .0) (sym (asked .ask-section .ensures .0) ∙ arm .q .given .1),
+      (subst Sound (arm .q .given .1) (asked .ask-section .ensures .1), tt),
+    )
 
 pub section-steps-spec : {M : Type 1} → statement M
 section-steps-spec =

@@ -1,6 +1,7 @@
 -- `copy_by` meets its contract.
 use Prim.Native.Nat.{ℕ}
 use mathlib.Core.Path.{sym, ap, subst, _∙_}
+use native.Mathlib.Omega.{arith}
 use Rattle.model.specs.Mappings.{mappingWith}
 use Rattle.model.specs.Checkpoints.{CopyAnswer}
 use Rattle.mapping.specs.Answers.{Sound, refusalIn}
@@ -33,7 +34,10 @@ returns c =
     let m = mappingWith (s .args .m) (s .args .sizes .now) in
     let by = sym (asked .ask-mapping .ensures .0) ∙ told .1 in (
       ap refused (c .refusal-of .ensures ∙ ap refusalIn (told .1)) ∙ answer-refused m (s .args .from .now) (s .args .to .now) _ by,
-      written-refused m (s .args .from .now) (s .args .to .now) _ by (s .args .loading),
+      (
+        written-refused m (s .args .from .now) (s .args .to .now) _ by (s .args .loading),
+        (omega (arith, c .refusal-of .ensures ∙ ap refusalIn (told .1), subst Sound (told .1) (asked .ask-mapping .ensures .1)), tt),
+      ),
     )
   where
     refused : ℕ → CopyAnswer
@@ -55,8 +59,11 @@ returns-2 c =
     let by = sym (asked .ask-mapping .ensures .0) ∙ known .1 in (
       ap copiedAs (copied .copy-in .ensures .0)
           ∙ answer-by (mappingWith (s .args .m) (s .args .sizes .now)) (s .args .from .now) (s .args .to .now) _ _ by,
-      copied .copy-in .ensures .1
-          ∙ written-by (s .args .m) (s .args .sizes .now) (s .args .from .now) (s .args .to .now) _ _ by (s .args .loading),
+      (
+        copied .copy-in .ensures .1 .0
+            ∙ written-by (s .args .m) (s .args .sizes .now) (s .args .from .now) (s .args .to .now) _ _ by (s .args .loading),
+        copied .copy-in .ensures .1 .1,
+      ),
     )
 
 pub copy-by-spec : {M : Type 1} → statement M

@@ -1,13 +1,15 @@
 -- `transfers` meets its contract: each case of the answer about the pair has its law.
-use mathlib.Core.Path.{_≡_, sym, ap, _∙_}
+use mathlib.Core.Path.{_≡_, sym, ap, _∙_, subst}
 use borrow.Author.Needs.{needs}
 use mir.Syntax.{w64}
 use mir.ValLaws.{toZ-ofZ}
 use Rattle.model.specs.Mappings.{Section, sectionWith}
+use Rattle.model.specs.Calls.{ToldApart}
+use Rattle.transfer.specs.declared.listing.Transferred.{Transferred}
 use Rattle.transfer.specs.Pairs.{pairAsked}
-use Rattle.transfer.specs.Answers.{listsOf, transferredAs}
+use Rattle.transfer.specs.Answers.{listsOf, transferredAs, transferredRefusals}
 use Rattle.transfer.proofs.PairAnswers.{pair-fits}
-use Rattle.transfer.proofs.CallAnswers.{answer-refused, lists-refused, answer-by, lists-by}
+use Rattle.transfer.proofs.CallAnswers.{answer-refused, lists-refused, told-refused, answer-by, lists-by, told-by}
 use Rattle.transfer.proofs.transfers.Statement.{statement}
 use Rattle.transfer.proofs.transfers.Tie as tie
 
@@ -63,7 +65,10 @@ returns c =
     let x = listsOf (s .args .positions .now) (s .args .sent .now) (s .args .received .now) in
     let by = sym (answered asked) ∙ arm .p .given .1 in (
       ap transferredAs (listed .list-pair .ensures .0) ∙ answer-by (left s) (right s) (s .args .sender) (s .args .receiver) x _ by,
-      listed .list-pair .ensures .1 ∙ lists-by (left s) (right s) (s .args .sender) (s .args .receiver) x _ by,
+      (
+        listed .list-pair .ensures .1 ∙ lists-by (left s) (right s) (s .args .sender) (s .args .receiver) x _ by,
+        subst (λ (r : Transferred). ToldApart (transferredRefusals r)) (sym (listed .list-pair .ensures .0)) (told-by _ x),
+      ),
     )
 
 returns-2 : tie.Need-returns-2
@@ -74,7 +79,10 @@ returns-2 c =
     let x = listsOf (s .args .positions .now) (s .args .sent .now) (s .args .received .now) in
     let by = sym (answered asked) ∙ arm .q .given .1 in (
       answer-refused (left s) (right s) (s .args .sender) (s .args .receiver) x _ by,
-      lists-refused (left s) (right s) (s .args .sender) (s .args .receiver) x _ by,
+      (
+        lists-refused (left s) (right s) (s .args .sender) (s .args .receiver) x _ by,
+        (told-refused (left s) (right s) (s .args .sender) (s .args .receiver) x _ by, tt),
+      ),
     )
 
 pub transfers-spec : {M : Type 1} → statement M

@@ -17,11 +17,11 @@ steps-of-period-requires c κs =
     let small = plan-small (s .args .s) (s .pre .0) (s .args .plan) (s .pre .1) in
     rw (c .moves-of .ensures, k .column-at .ensures) (small .0, column-low (s .args .s) (s .pre .0) (s .args .plan) (s .pre .1) _)
 
-mul-if1 : tie.Need-mul-if1
-mul-if1 c = search needs
-
 add-if1 : tie.Need-add-if1
 add-if1 c = search needs
+
+mul-if1 : tie.Need-mul-if1
+mul-if1 c = search needs
 
 fill-part-requires : tie.Need-fill-part-requires
 fill-part-requires c κs = search needs
@@ -57,8 +57,8 @@ fill-long-spec =
     column-at-requires
     moves-of-requires
     steps-of-period-requires
-    mul-if1
     add-if1
+    mul-if1
     fill-part-requires
     same-length
     returns

@@ -60,8 +60,8 @@ has-returned-requires c κs = search needs
 word-at-requires : tie.Need-word-at-requires
 word-at-requires c κs = search needs
 
-cast-start : tie.Need-cast-start
-cast-start c = search needs
+cast-add : tie.Need-cast-add
+cast-add c = search needs
 
 address-at-requires : tie.Need-address-at-requires
 address-at-requires c κs = search needs
@@ -71,20 +71,20 @@ sub-add c = search needs
 
 add-add : tie.Need-add-add
 add-add c =
-    let b = c .before in
+    let b = c .before .before in
     let s = begun (b .before .before .before) in
     omega (arith, b .address-at .ensures, address-fits (s .args .s .section) (s .pre .0 .blocks .started .section-bounded) _ (b .before .before .before .before .before .if1 .left))
 
-sub-t21 : tie.Need-sub-t21
-sub-t21 c = omega (arith, found (c .before .before .before .before .before .before) .later)
+sub-t20 : tie.Need-sub-t20
+sub-t20 c = omega (arith, found (c .before .before .before .before .before .before .before) .later)
 
 moves-of-requires : tie.Need-moves-of-requires
 moves-of-requires c κs = search needs
 
 pass-periods-requires : tie.Need-pass-periods-requires
 pass-periods-requires c κs =
-    let five = c .before .before in
-    let k = five .before .before .before .before .before .before in
+    let six = c .before .before in
+    let k = six .before .before .before .before .before .before .before in
     let s = begun k in
     let b = s .pre .0 in
     let r = found k in
@@ -105,13 +105,13 @@ pass-periods-requires c κs =
 
 same-length-2 : tie.Need-same-length-2
 same-length-2 c =
-    let k = c .before .before .before .before .before .before .before .before .before .before .before in
+    let k = c .before .before .before .before .before .before .before .before .before .before .before .before in
     c .before .before .pass-periods .ensures .copied .size ∙ same-size k
 
 returns-2 : tie.Need-returns-2
 returns-2 c =
-    let five = c .before .before .before .before .before in
-    let a = five .before .before .before in
+    let six = c .before .before .before .before .before in
+    let a = six .before .before .before .before in
     let k = a .before .before .before in
     let f = filled k in
     let s = begun k in
@@ -155,11 +155,11 @@ fill-periods-spec =
     returns
     has-returned-requires
     word-at-requires
-    cast-start
+    cast-add
     address-at-requires
     sub-add
     add-add
-    sub-t21
+    sub-t20
     moves-of-requires
     pass-periods-requires
     same-length-2

@@ -50,11 +50,11 @@ copy-periods-requires c κs =
     )
 
 same-length : tie.Need-same-length
-same-length c = c .before .before .before .copy-periods .ensures .size
+same-length c = c .before .before .before .before .copy-periods .ensures .size
 
 returns : tie.Need-returns
 returns c =
-    let k = c .before .before .before in
+    let k = c .before .before .before .before in
     let u = k .before .before in
     record {
       whole = u .before .periods-ahead .result;
@@ -68,11 +68,11 @@ returns c =
     }
 
 same-length-2 : tie.Need-same-length-2
-same-length-2 c = c .before .before .before .copy-periods .ensures .size
+same-length-2 c = c .before .before .before .before .copy-periods .ensures .size
 
 returns-2 : tie.Need-returns-2
 returns-2 c =
-    let k = c .before .before .before in
+    let k = c .before .before .before .before in
     let u = k .before .before in
     record {
       whole = u .before .periods-ahead .result;

@@ -35,24 +35,24 @@ module _ (c : tie.After-natural) where
 
 returns-2 : tie.Need-returns-2
 returns-2 c =
-    let n = c .before in
+    let n = c .before .before in
     let a = start n .args in
     count-yes (a .s) (a .place) (is-natural n) (omega (arith, position n))
 
 returns-3 : tie.Need-returns-3
 returns-3 c =
-    let n = c .before .before in
+    let n = c .before .before .before .before in
     let a = start n .args in
     past-no (a .s) (a .place) (is-natural n) (omega (arith, position n))
 
 owns-at-requires : tie.Need-owns-at-requires
 owns-at-requires c κs =
-    let s : tie.Start = c .before .before .before .before in
+    let s = start (c .before .before .before .before) in
     record { fitted = s .pre; below = omega (arith, c .if3 .left) }
 
 returns-4 : tie.Need-returns-4
 returns-4 c =
-    let n = c .before .before .before in
+    let n = c .before .before .before .before .before in
     let a = start n .args in
     c .owns-at .ensures ∙ ap (ownedBy (a .s)) (position n)
     ∙ position-owned (a .s) (a .place) (is-natural n) (omega (arith, position n))

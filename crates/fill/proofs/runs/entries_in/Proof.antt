@@ -9,6 +9,9 @@ sub-least c = search needs
 sub-least-2 : tie.Need-sub-least-2
 sub-least-2 c = search needs
 
+sub-least-3 : tie.Need-sub-least-3
+sub-least-3 c = search needs
+
 least-requires : tie.Need-least-requires
 least-requires c κs = search needs
 
@@ -20,4 +23,4 @@ returns c = cc (c .least2 .ensures, c .before .least .ensures)
 
 pub entries-in-spec : {M : Type 1} → statement M
 entries-in-spec =
-    tie.close (tie.spec sub-least sub-least-2 least-requires least-requires-2 returns)
+    tie.close (tie.spec sub-least sub-least-2 sub-least-3 least-requires least-requires-2 returns)

@@ -29,8 +29,8 @@ index-at-requires c κs =
     let s : tie.Start = c .before .before .before .before in
     record { bounded = s .pre .accepted .started .section-bounded; below = s .pre .below }
 
-sub-first : tie.Need-sub-first
-sub-first c =
+sub-t19 : tie.Need-sub-t19
+sub-t19 c =
     let s : tie.Start = c .before .before .before .before .before in
     omega (arith, c .index-at .ensures, room (s .args .s) (s .args .r) (s .pre) .1)
 
@@ -45,20 +45,20 @@ module _ (c : tie.After-onward-by) where
   abbrev start : tie.Start
   start = entered .before .before .before .before
 
-  written : entered .entries-in .result ≡ entriesIn (start .args .r .high) (start .args .s .place .0) (start .args .s .quota) (length (start .args .list .now) / 4)
+  written : entered .entries-in .result ≡ entriesIn (start .args .r .high .0) (start .args .s .place .0) (start .args .s .quota) (length (start .args .list .now) / 4)
   written = entered .entries-in .ensures
 
-  first : c .before .before .index-at .result .0 - start .args .r .base ≡ offBase (start .args .s .section) (start .args .r) (start .args .s .place .0)
-  first = ap (λ (i : ℕ). i - start .args .r .base) (c .before .before .index-at .ensures)
+  first : c .before .before .index-at .result .0 - start .args .r .base .0 ≡ offBase (start .args .s .section) (start .args .r) (start .args .s .place .0)
+  first = ap (λ (i : ℕ). i - start .args .r .base .0) (c .before .before .index-at .ensures)
 
   low : c .before .before .index-at .result .0 < 2147483648
   low =
       let b = start .pre .accepted .started .section-bounded in
       omega (arith, c .before .before .index-at .ensures, index-inside (start .args .s .section) b (start .args .s .place .0) (start .pre .below), b .sized .size-high)
 
-  inside : (entered .entries-in .result ≤ length (start .args .list .now) / 4) × (start .args .s .place .0 + entered .entries-in .result ≤ start .args .r .high)
+  inside : (entered .entries-in .result ≤ length (start .args .list .now) / 4) × (start .args .s .place .0 + entered .entries-in .result ≤ start .args .r .high .0)
   inside =
-      let h = start .args .r .high - start .args .s .place .0 in
+      let h = start .args .r .high .0 - start .args .s .place .0 in
       let a = fewest-le (fewest h (start .args .s .quota - 2)) (length (start .args .list .now) / 4) in
       let b = fewest-le h (start .args .s .quota - 2) in
       (omega (arith, written, a .1), omega (arith, written, a .0, b .0, room (start .args .s) (start .args .r) (start .pre) .0))
@@ -68,15 +68,15 @@ put-run-requires c κs =
     let s = start c in
     (inside c .0, omega (arith, low c), omega (arith, c .onward-by .ensures, onward-low (s .args .s .section .upward) (s .args .s .section .stride)))
 
-add-on : tie.Need-add-on
-add-on c =
+add-t31 : tie.Need-add-t31
+add-t31 c =
     let o : tie.After-onward-by = c .before .before .before in
     omega (arith, inside o .1, start o .pre .accepted .started .section-bounded .count-high, span-in (start o .args .s) (start o .args .r) (start o .pre))
 
 -- what was put, and where the fill ends
 filled : (o : tie.After-onward-by) (bs : List ℕ) (p : ℕ) → let s : tie.Start = start o in
-    bs ≡ storeEntries (s .args .list .now) 0 (addressesFrom (entered o .entries-in .result) (o .before .before .index-at .result .0 - s .args .r .base) (o .onward-by .result))
-    → p ≡ cond (ltb (s .args .s .place .0 + entered o .entries-in .result) (s .args .r .high)) (s .args .s .place .0 + entered o .entries-in .result) (s .args .s .section .count)
+    bs ≡ storeEntries (s .args .list .now) 0 (addressesFrom (entered o .entries-in .result) (o .before .before .index-at .result .0 - s .args .r .base .0) (o .onward-by .result))
+    → p ≡ cond (ltb (s .args .s .place .0 + entered o .entries-in .result) (s .args .r .high .0)) (s .args .s .place .0 + entered o .entries-in .result) (s .args .s .section .count)
     → FillsBytesFrom (s .args .s) (s .args .list .now) bs (record { entries = entered o .entries-in .result; tries = entered o .entries-in .result; place = record { 0 = p } })
 filled o bs p put end =
     let s = start o in
@@ -107,10 +107,10 @@ fill-along-spec =
     (tie.spec
     entries-in-requires
     index-at-requires
-    sub-first
+    sub-t19
     onward-by-requires
     put-run-requires
-    add-on
+    add-t31
     same-length
     returns
     same-length-2

@@ -14,12 +14,12 @@ use Rattle.fill.proofs.runs.put_run.Statement.{statement}
 use Rattle.fill.proofs.runs.put_run.Tie as tie
 
 abbrev Inv-loop : tie.InvT-loop
-Inv-loop list₀ n first add i₀ x₀ list i x =
+Inv-loop list₀ n add i₀ x₀ list i x =
     (i ≤ n) × (x < 4294967296) × (length list ≡ length list₀)
-    × (storeEntries list i (addressesFrom (n - i) x add) ≡ storeEntries list₀ 0 (addressesFrom n first add))
+    × (storeEntries list i (addressesFrom (n - i) x add) ≡ storeEntries list₀ 0 (addressesFrom n x₀ add))
 
 abbrev μ-loop : tie.MeasureT-loop
-μ-loop list₀ n first add i₀ x₀ list i x = n - i
+μ-loop list₀ n add i₀ x₀ list i x = n - i
 
 -- one entry stored, and the rest after it
 on : (l : List ℕ) (n i x d : ℕ) → i < n
@@ -33,7 +33,7 @@ loop-holds : tie.Need-loop-holds Inv-loop μ-loop
 loop-holds c =
     let s : tie.Start Inv-loop μ-loop = c .before in
     let all : s .args .n - 0 ≡ s .args .n = omega arith in
-    (omega arith, s .pre .1, refl, ap (λ (m : ℕ). storeEntries (s .args .list .now) 0 (addressesFrom m (s .args .first) (s .args .add))) all)
+    (omega arith, s .pre .1, refl, ap (λ (m : ℕ). storeEntries (s .args .list .now) 0 (addressesFrom m (s .args .first .0) (s .args .add))) all)
 
 cast-put-entry : tie.Need-cast-put-entry Inv-loop μ-loop
 cast-put-entry c = omega (arith, c .before .before .loop .inv .1)

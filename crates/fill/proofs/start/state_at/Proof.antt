@@ -1,5 +1,6 @@
 -- `state_at` meets its contract.
 use mathlib.Core.Path.{ap, _∙_}
+use native.Mathlib.Omega.{arith}
 use Rattle.model.specs.Ownership.{columnOf}
 use Rattle.fill.specs.SectionMoves.{onWay}
 use Rattle.fill.proofs.StartLaws.{state-past, state-on}
@@ -21,7 +22,7 @@ column-of-requires c κs = start (c .before) .pre .started .section-bounded
 address-at-requires : tie.Need-address-at-requires
 address-at-requires c κs =
     let e = c .before .before in
-    record { bounded = start e .pre .started .section-bounded; below = e .if1 .left }
+    record { bounded = start e .pre .started .section-bounded; below = omega (arith, e .if1 .left) }
 
 returns-2 : tie.Need-returns-2
 returns-2 c =

@@ -40,7 +40,7 @@ returns : tie.Need-returns
 unfolding foundAmong
 returns c =
     let s = c .before .before .before .before .before in
-    rw (said-no (isBelow (pos (inAll s))) (s .args .address) (s .fits .address) (c .before .is-below .ensures) (c .if1 .taken))
+    (rw (said-no (isBelow (pos (inAll s))) (s .args .address) (s .fits .address) (c .before .is-below .ensures) (c .if1 .taken)), (omega arith, tt))
 
 natural-requires : tie.Need-natural-requires
 natural-requires c κs = search needs
@@ -82,22 +82,22 @@ module _ (c : tie.After-natural) where
 div-rest : tie.Need-div-rest
 div-rest c = omega (arith, near-lt (c .before))
 
-rem-index-at : tie.Need-rem-index-at
-rem-index-at c = omega (arith, near-lt (c .before .before .before .before .before))
+rem-t12 : tie.Need-rem-t12
+rem-t12 c = omega (arith, near-lt (c .before .before .before .before .before))
 
 index-at-requires : tie.Need-index-at-requires
 index-at-requires c κs = let n = c .before .before .before .before .before in (start n .pre .0, near-lt n)
 
-rem-index-at-2 : tie.Need-rem-index-at-2
-rem-index-at-2 c = omega (arith, row-lt (c .before .before .before .before .before .before .before))
+rem-t13 : tie.Need-rem-t13
+rem-t13 c = omega (arith, row-lt (c .before .before .before .before .before .before .before))
 
 index-at-requires-2 : tie.Need-index-at-requires-2
 index-at-requires-2 c κs =
     let n = c .before .before .before .before .before .before .before in
     (start n .pre .1 .0, row-lt n)
 
-div-index-at : tie.Need-div-index-at
-div-index-at c = omega (arith, row-lt (c .before .before .before .before .before .before .before .before .before))
+div-t20 : tie.Need-div-t20
+div-t20 c = omega (arith, row-lt (c .before .before .before .before .before .before .before .before .before))
 
 index-at-requires-3 : tie.Need-index-at-requires-3
 index-at-requires-3 c κs =
@@ -115,7 +115,7 @@ returns-2 c =
     let i = first .index-at .ensures ∙ ap (λ (k : ℕ). indexIn (s .args .x .first) (s .args .near) (k % near n)) e in
     let j = second .index-at2 .ensures ∙ ap (λ (k : ℕ). indexIn (s .args .x .second) (s .args .row) (k / near n % row n)) e in
     let k = c .index-at3 .ensures ∙ ap (λ (k : ℕ). indexIn (s .args .x .third) (s .args .plane) (k / near n / row n)) e in
-    rw (is-address (n .before)) (λ t. record { refusal = 0; indices = indicesFrom (i t) (j t) (k t) })
+    (rw (is-address (n .before)) (λ t. record { refusal = 0; indices = indicesFrom (i t) (j t) (k t) }), tt)
 
 pub found-among-spec : {M : Type 1} → statement M
 found-among-spec =
@@ -127,10 +127,10 @@ found-among-spec =
     returns
     natural-requires
     div-rest
-    rem-index-at
+    rem-t12
     index-at-requires
-    rem-index-at-2
+    rem-t13
     index-at-requires-2
-    div-index-at
+    div-t20
     index-at-requires-3
     returns-2)

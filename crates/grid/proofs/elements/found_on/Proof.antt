@@ -36,7 +36,7 @@ returns : tie.Need-returns
 unfolding goingBackOn
 returns c =
     let s = c .before .before .before .before .before .before .before .before .before in
-    rw (said-no (isBelow (pos (processors s))) (s .args .processor) (s .fits .processor) (c .before .is-below .ensures) (c .if1 .taken))
+    (rw (said-no (isBelow (pos (processors s))) (s .args .processor) (s .fits .processor) (c .before .is-below .ensures) (c .if1 .taken)), (omega arith, tt))
 
 natural-requires : tie.Need-natural-requires
 natural-requires c κs = search needs
@@ -136,10 +136,12 @@ returns-2 : tie.Need-returns-2
 returns-2 c =
     let h = c .before in
     let a = s h .args in
-    let e = toZ-ofZ w64 (a .address) (s h .fits .address) in
-    c .found-among .ensures
-    ∙ (λ t. foundAmong (a .x) (near h t) (row h t) (plane h t) (e t))
-    ∙ found-so (a .x) (a .b .now) (a .c .now) (a .d .now) (s h .pre) (a .processor) (yes (n h)) (a .address)
+    let e = toZ-ofZ w64 (a .address) (s h .fits .address) in (
+      c .found-among .ensures .0
+          ∙ (λ t. foundAmong (a .x) (near h t) (row h t) (plane h t) (e t))
+          ∙ found-so (a .x) (a .b .now) (a .c .now) (a .d .now) (s h .pre) (a .processor) (yes (n h)) (a .address),
+      c .found-among .ensures .1,
+    )
 
 pub found-on-spec : {M : Type 1} → statement M
 found-on-spec =

@@ -25,7 +25,7 @@ module _ (c : tie.After-element-in) where
       let k = s .pre .0 in
       let x = s .args .x in
       let h = s .args .h in
-      let a = s .args .address in
+      let a = s .args .address .0 in
       omega (
         arith,
         c .element-in .ensures,
@@ -46,12 +46,12 @@ module _ (c : tie.After-element-in) where
       small-fits w64 index
       (omega (arith, low, size-add (s .args .x .lower) (pos (c .element-in .result .0)), s .pre .0 .ranged .1))
 
-cast-t8 : tie.Need-cast-t8
-cast-t8 c = small-fits w64 (pos (c .before .element-in .result .0)) (omega (arith, low (c .before)))
+cast-t7 : tie.Need-cast-t7
+cast-t7 c = small-fits w64 (pos (c .before .element-in .result .0)) (omega (arith, low (c .before)))
 
-add-t9 : tie.Need-add-t9
+add-t8 : tie.Need-add-t8
 unfolding index
-add-t9 c = let e = c .before .before .before in fits-as w64 (sum e) (index-fits e)
+add-t8 c = let e = c .before .before .before in fits-as w64 (sum e) (index-fits e)
 
 returns : tie.Need-returns
 unfolding index
@@ -60,4 +60,4 @@ returns c =
     back-as w64 (sum e) (index-fits e) ∙ ap (λ i. s e .args .x .lower +ℤ pos i) (e .element-in .ensures)
 
 pub index-at-spec : {M : Type 1} → statement M
-index-at-spec = tie.close (tie.spec element-in-requires cast-t8 add-t9 returns)
+index-at-spec = tie.close (tie.spec element-in-requires cast-t7 add-t8 returns)

@@ -1,6 +1,7 @@
 -- `owned_on` meets its contract.
 use mathlib.Core.Path.{_≡_, sym, ap, _∙_}
 use mathlib.Core.Bool.{Bool, true, _&&_}
+use native.Mathlib.Omega.{arith}
 use borrow.Author.Needs.{needs}
 use borrow.Author.Tests.{not-true, not-false}
 use lib.IntN.{ℤ}
@@ -8,7 +9,8 @@ use mir.Syntax.{w64}
 use mir.ValLaws.{toZ-ofZ}
 use Rattle.grid.specs.Dimensions.{arrayIn}
 use Rattle.grid.specs.Answers.{numbered, hasIndex, fromLowerIn, keptIn, ownershipOn}
-use Rattle.grid.proofs.ElementLaws.{first-in, second-in, third-in, owner-high, some-held, address-high, owned-so}
+use Rattle.grid.proofs.ThreeLaws.{number-high}
+use Rattle.grid.proofs.ElementLaws.{first-in, second-in, third-in, coordinates, some-held, address-high, owned-so}
 use Rattle.grid.proofs.elements.owned_on.Statement.{statement}
 use Rattle.grid.proofs.elements.owned_on.Tie as tie
 
@@ -30,7 +32,7 @@ asked c =
 
 returns : tie.Need-returns
 unfolding ownershipOn
-returns c = rw (sym (asked (c .before)) ∙ not-true _ (c .if1 .taken))
+returns c = (rw (sym (asked (c .before)) ∙ not-true _ (c .if1 .taken)), (omega arith, tt))
 
 module _ (c : tie.After-m) where
   abbrev start : tie.Start
@@ -84,8 +86,12 @@ numbered-requires : tie.Need-numbered-requires
 numbered-requires c κs =
     let s = begun c in
     let a = s .args in
-    rw (near c, row c, plane c)
-    (s .pre .first .ranged .0 .processors-pos, owner-high (a .x) (a .b .now) (a .c .now) (a .d .now) (s .pre) (a .first) (a .second) (a .third) (yes (c .before .before .before)))
+    let k = s .pre in
+    let low = coordinates (a .x) (a .b .now) (a .c .now) (a .d .now) k (a .first) (a .second) (a .third) (yes (c .before .before .before)) in
+    rw (near c, row c, plane c) (
+      k .first .ranged .0 .processors-pos,
+      number-high (omega arith) (k .first .ranged .0 .processors-high) (omega arith) (k .second .ranged .0 .processors-high) (omega arith),
+    )
 
 numbered-requires-2 : tie.Need-numbered-requires-2
 numbered-requires-2 c κs =
@@ -105,9 +111,11 @@ returns-2 c =
     let p = a .x .first .layout .processors in
     let q = a .x .second .layout .processors in
     let owner = c .before .numbered .ensures ∙ (λ t. numbered (near k t .processor) p (row k t .processor) q (plane k t .processor)) in
-    let address = c .numbered2 .ensures ∙ (λ t. numbered (near k t .address) (near k t .elements) (row k t .address) (row k t .elements) (plane k t .address)) in
-    (λ t. record { refusal = 0; processor = owner t; address = address t })
-    ∙ owned-so (a .x) (a .b .now) (a .c .now) (a .d .now) (s .pre) (a .first) (a .second) (a .third) (yes (k .before .before .before))
+    let address = c .numbered2 .ensures ∙ (λ t. numbered (near k t .address .0) (near k t .elements) (row k t .address .0) (row k t .elements) (plane k t .address .0)) in (
+      (λ t. record { refusal = 0; processor = owner t; address = address t })
+          ∙ owned-so (a .x) (a .b .now) (a .c .now) (a .d .now) (s .pre) (a .first) (a .second) (a .third) (yes (k .before .before .before)),
+      tt,
+    )
 
 pub owned-on-spec : {M : Type 1} → statement M
 owned-on-spec =

@@ -4,6 +4,7 @@ use Prim.Native.Nat.{ℕ, _*_, _≤_, _<_}
 use mathlib.Core.Path.{ap}
 use native.Mathlib.Nat.{mul-le-mul-right, pos-of-ne-zero}
 use native.Mathlib.Omega.{arith}
+use borrow.Author.Needs.{needs}
 use borrow.Author.Tests.{lt-leb, le-leb}
 use Rattle.numbers.proofs.Division.{product-le}
 use Rattle.grid.proofs.ranks.products_fit.Statement.{statement}
@@ -26,6 +27,9 @@ module _ (s : tie.Start) where
   abbrev sizes : ℕ
   sizes = s .args .a .size * (s .args .b .size * s .args .c .size)
 
+cast-if1 : tie.Need-cast-if1
+cast-if1 c = search needs
+
 mul-if1 : tie.Need-mul-if1
 mul-if1 c = let s : tie.Start = c .before .before in omega (arith, processors-of-two s)
 
@@ -45,6 +49,9 @@ returns-2 c =
 
 mul-rest : tie.Need-mul-rest
 mul-rest c = let s : tie.Start = c .before .before .before .before .before .before .before .before in omega (arith, sizes-of-two s)
+
+cast-most : tie.Need-cast-most
+cast-most c = search needs
 
 returns-3 : tie.Need-returns-3
 returns-3 c =
@@ -68,4 +75,4 @@ returns-4 c =
 pub products-fit-spec : {M : Type 1} → statement M
 products-fit-spec =
     tie.close
-    (tie.spec mul-if1 mul-if1-2 returns returns-2 mul-rest returns-3 mul-result returns-4)
+    (tie.spec cast-if1 mul-if1 mul-if1-2 returns returns-2 mul-rest cast-most returns-3 mul-result returns-4)

@@ -95,6 +95,12 @@ returns-2 c =
 tenth : (c : tie.Else2) → let e : tie.After-shares-of = c .before .before in isPlaceBy (shares e) (begun e .args .place) ≡ true
 tenth c = sym (place-said (c .before)) ∙ not-false _ (c .if2 .left)
 
+cast-within : tie.Need-cast-within
+cast-within c = search needs
+
+cast-within-2 : tie.Need-cast-within-2
+cast-within-2 c = search needs
+
 within-requires : tie.Need-within-requires
 within-requires c κs = search needs
 
@@ -158,6 +164,8 @@ ready-in-spec =
     shares-of-requires
     is-place-requires
     returns-2
+    cast-within
+    cast-within-2
     within-requires
     returns-3
     held-in-requires

@@ -114,7 +114,7 @@ returns c x o st known quota fits =
     let turn : Turn = record { stand = c .before .before .before .entering .result; whole = w; entries = count f * w .entries; tries = count f * w .tries } in
     subst (λ (l : List ℕ). Turned x p at quota (s .args .n) (s .args .list .now) l turn) (sym (put .put-rows .ensures))
     (after-turned x p o at st v (copying f .enters) (s .args .plane .next .0) in-planes (s .args .list .now) (s .args .n) w known quota (count f)
-    (omega (arith, fits, mul-le-mul-right (w .tries) (few f))) (bounds f .2) (baseAt (p .elements) (p .rows) (s .args .plane .address) (listed f))
+    (omega (arith, fits, mul-le-mul-right (w .tries) (few f))) (bounds f .2) (baseAt (p .elements) (p .rows) (s .args .plane .address .0) (listed f))
     (row-on x p o at st v (s .args .plane) (s .pre .0 .1) _ _ _ filled) (row-base x p o at st v (s .args .plane) (s .pre .0 .1) _ _ _ filled)
     (some-rows x p o at st v (s .args .plane) (s .pre .0 .1) _ _ _ filled (copying f .some)) (copying f .entries) turn
     (c .before .before .before .entering .ensures ∙ ap (λ (u : ℕ). enteringAt p u (at .third .0) (s .args .plane .next .0)) place) refl refl refl)

@@ -18,7 +18,7 @@ use Rattle.grid_fill.proofs.turns.put_rows.Tie as tie
 
 abbrev Inv-loop : tie.InvT-loop
 Inv-loop elements rows plane addresses w count list₀ n j₀ list j =
-    (j ≤ count) × (length list ≡ length list₀) × (list ≡ putRows (baseAt elements rows plane addresses) w list₀ n j)
+    (j ≤ count) × (length list ≡ length list₀) × (list ≡ putRows (baseAt elements rows (plane .0) addresses) w list₀ n j)
 
 abbrev μ-loop : tie.MeasureT-loop
 μ-loop elements rows plane addresses w count list₀ n j₀ list j = count - j
@@ -52,48 +52,48 @@ module _ (c : tie.After-word-at Inv-loop μ-loop) where
   s = start (c .before)
 
   abbrev base : ℕ
-  base = s .args .elements * (c .word-at .result + s .args .rows * s .args .plane)
+  base = s .args .elements * (c .word-at .result + s .args .rows * s .args .plane .0)
 
-  is : base ≡ baseAt (s .args .elements) (s .args .rows) (s .args .plane) (s .args .addresses .now) (at (c .before) .loop .j)
-  is = ap (λ (z : ℕ). s .args .elements * (z + s .args .rows * s .args .plane)) (c .word-at .ensures)
+  is : base ≡ baseAt (s .args .elements) (s .args .rows) (s .args .plane .0) (s .args .addresses .now) (at (c .before) .loop .j)
+  is = ap (λ (z : ℕ). s .args .elements * (z + s .args .rows * s .args .plane .0)) (c .word-at .ensures)
 
   low : base < 2147483648
   low = omega (arith, is, s .pre .low (at (c .before) .loop .j) (c .before .loop-test .taken))
 
-  product : s .args .rows * s .args .plane ≤ 4611686014132420609
-  product = small-product (s .args .rows) (s .args .plane) (s .pre .few-rows) (s .pre .plane-low)
+  product : s .args .rows * s .args .plane .0 ≤ 4611686014132420609
+  product = small-product (s .args .rows) (s .args .plane .0) (s .pre .few-rows) (s .pre .plane-low)
 
 cast-base : tie.Need-cast-base Inv-loop μ-loop
 cast-base c = search needs
 
 mul-base : tie.Need-mul-base Inv-loop μ-loop
-mul-base c = omega (arith, product c)
+mul-base c = omega (arith, product (c .before))
 
 add-base : tie.Need-add-base Inv-loop μ-loop
-add-base c = omega (arith, product c)
+add-base c = omega (arith, product (c .before))
 
 mul-base-2 : tie.Need-mul-base-2 Inv-loop μ-loop
-mul-base-2 c = omega (arith, low c)
+mul-base-2 c = omega (arith, low (c .before))
 
 sub-add : tie.Need-sub-add Inv-loop μ-loop
-sub-add c = omega (arith, s (c .before) .pre .base, low (c .before))
+sub-add c = omega (arith, s (c .before .before) .pre .base, low (c .before .before))
 
 add-add : tie.Need-add-add Inv-loop μ-loop
-add-add c = omega (arith, s (c .before) .pre .base, low (c .before))
+add-add c = omega (arith, s (c .before .before) .pre .base, low (c .before .before))
 
 mul-put-higher : tie.Need-mul-put-higher Inv-loop μ-loop
-mul-put-higher c = let i = c .before .before .before .before in omega (arith, room i, at i .loop .inv .1, start i .good .1 .1 .1 .1 .1 .1 .0 .0)
+mul-put-higher c = let i = c .before .before .before .before .before in omega (arith, room i, at i .loop .inv .1, start i .good .1 .1 .1 .1 .1 .1 .0 .0)
 
 add-put-higher : tie.Need-add-put-higher Inv-loop μ-loop
-add-put-higher c = let i = c .before .before .before .before in omega (arith, room i, at i .loop .inv .1, start i .good .1 .1 .1 .1 .1 .1 .0 .0)
+add-put-higher c = let i = c .before .before .before .before .before in omega (arith, room i, at i .loop .inv .1, start i .good .1 .1 .1 .1 .1 .1 .0 .0)
 
 put-higher-requires : tie.Need-put-higher-requires Inv-loop μ-loop
 put-higher-requires c κs =
-    let i = c .before .before .before .before in
+    let i = c .before .before .before .before .before in
     (omega (arith, room i), inr (omega (arith, start i .pre .before)), mod-lt _ (omega arith))
 
 abbrev turn : tie.After-slice-known2 Inv-loop μ-loop → tie.In-loop Inv-loop μ-loop
-turn c = c .before .before .before .before .before .before .before
+turn c = c .before .before .before .before .before .before .before .before
 
 add-j : tie.Need-add-j Inv-loop μ-loop
 add-j c = let i = turn c in omega (arith, i .loop-test .taken, start i .fits .count)
@@ -105,11 +105,11 @@ loop-again : tie.Need-loop-again Inv-loop μ-loop
 unfolding putRows
 loop-again c =
     let put = c .before .before in
-    let word = put .before .before .before .before in
+    let word = put .before .before .before .before .before in
     let i = turn c in
     let r = at i .loop .inv in
     let w = start i .args .w in
-    let bases = baseAt (start i .args .elements) (start i .args .rows) (start i .args .plane) (start i .args .addresses .now) in (
+    let bases = baseAt (start i .args .elements) (start i .args .rows) (start i .args .plane .0) (start i .args .addresses .now) in (
       omega (arith, i .loop-test .taken),
       ap length (put .put-higher .ensures) ∙ stores-length (at i .loop .list) _ _ ∙ r .1,
       put .put-higher .ensures

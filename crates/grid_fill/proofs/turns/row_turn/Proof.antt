@@ -32,7 +32,7 @@ module _ (c : tie.After-step-from) where
   begun = start .pre .0
 
   abbrev base : ℕ
-  base = start .args .p .elements * (c .step-from .result .address + start .args .p .rows * start .args .plane .address)
+  base = start .args .p .elements * (c .step-from .result .address .0 + start .args .p .rows * start .args .plane .address .0)
 
   is : (x : GridSection) (o : PlanOf (start .args .p) x) (st : Standing x (start .args .p) (start .args .at)) → base ≡ heightOf x (start .args .p) o (start .args .at) st (going-in begun x o)
   is x o st = base-is x (start .args .p) o (start .args .at) st (going-in begun x o) (c .step-from .result) (start .args .plane) (c .step-from .ensures) (start .pre .1)
@@ -42,7 +42,7 @@ module _ (c : tie.After-step-from) where
       let b = begun in
       omega (arith, is (b .source) (b .planned) (b .stands), height-low (b .source) (start .args .p) (b .planned) (start .args .at) (b .stands) (going-in b (b .source) (b .planned)))
 
-  addresses : (c .step-from .result .address ≤ 2147483647) × (start .args .plane .address ≤ 2147483647)
+  addresses : (c .step-from .result .address .0 ≤ 2147483647) × (start .args .plane .address .0 ≤ 2147483647)
   addresses =
       let b = begun in
       let x = b .source in
@@ -51,8 +51,8 @@ module _ (c : tie.After-step-from) where
         step-low (sectionsOf x .third) (third-yes x (o .accepted)) (start .args .p .third) (o .third) (start .args .at .third .0) (b .stands .third (going-in b x o)) (start .args .plane) (start .pre .1),
       )
 
-  product : start .args .p .rows * start .args .plane .address ≤ 4611686014132420609
-  product = small-product (start .args .p .rows) (start .args .plane .address) (begun .planned .few) (addresses .1)
+  product : start .args .p .rows * start .args .plane .address .0 ≤ 4611686014132420609
+  product = small-product (start .args .p .rows) (start .args .plane .address .0) (begun .planned .few) (addresses .1)
 
 mul-base : tie.Need-mul-base
 mul-base c = omega (arith, product (c .before .before))

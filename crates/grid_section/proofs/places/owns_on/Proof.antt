@@ -17,37 +17,37 @@ module _ (s : tie.Start) where
   abbrev o : ℕ
   o = s .args .s .third .section .count
 
-  row : s .args .t / m < n * o
-  row = second-lt m (n * o) (s .args .t) (s .pre .1)
+  row : s .args .t .0 / m < n * o
+  row = second-lt m (n * o) (s .args .t .0) (s .pre .1)
 
-  first : s .args .t % m < m
-  first = first-lt m (n * o) (s .args .t) (s .pre .1)
+  first : s .args .t .0 % m < m
+  first = first-lt m (n * o) (s .args .t .0) (s .pre .1)
 
-  second : s .args .t / m % n < n
-  second = first-lt n o (s .args .t / m) row
+  second : s .args .t .0 / m % n < n
+  second = first-lt n o (s .args .t .0 / m) row
 
-  third : s .args .t / m / n < o
-  third = second-lt n o (s .args .t / m) row
+  third : s .args .t .0 / m / n < o
+  third = second-lt n o (s .args .t .0 / m) row
 
 div-row : tie.Need-div-row
-div-row c = let s : tie.Start = c .before .before .before in omega (arith, first s)
+div-row c = let s : tie.Start = c .before .before .before .before in omega (arith, first s)
 
 rem-t10 : tie.Need-rem-t10
-rem-t10 c = let s : tie.Start = c .before .before .before in omega (arith, first s)
+rem-t10 c = let s : tie.Start = c .before .before .before .before .before in omega (arith, first s)
 
 owns-at-requires : tie.Need-owns-at-requires
 owns-at-requires c κs =
-    let s : tie.Start = c .before .before .before in record { fitted = s .pre .0 .first; below = first s }
+    let s : tie.Start = c .before .before .before .before .before in record { fitted = s .pre .0 .first; below = first s }
 
 returns : tie.Need-returns
 returns c = rw (sym (c .before .owns-at .ensures) ∙ not-true _ (c .if1 .taken))
 
 rem-t10-2 : tie.Need-rem-t10-2
-rem-t10-2 c = let s : tie.Start = c .before .before .before .before .before in omega (arith, second s)
+rem-t10-2 c = let s : tie.Start = c .before .before .before .before .before .before .before in omega (arith, second s)
 
 owns-at-requires-2 : tie.Need-owns-at-requires-2
 owns-at-requires-2 c κs =
-    let s : tie.Start = c .before .before .before .before .before in record { fitted = s .pre .0 .second; below = second s }
+    let s : tie.Start = c .before .before .before .before .before .before .before in record { fitted = s .pre .0 .second; below = second s }
 
 returns-2 : tie.Need-returns-2
 returns-2 c =
@@ -58,11 +58,11 @@ returns-2 c =
     )
 
 div-t10 : tie.Need-div-t10
-div-t10 c = let s : tie.Start = c .before .before .before .before .before .before .before in omega (arith, second s)
+div-t10 c = let s : tie.Start = c .before .before .before .before .before .before .before .before .before in omega (arith, second s)
 
 owns-at-requires-3 : tie.Need-owns-at-requires-3
 owns-at-requires-3 c κs =
-    let s : tie.Start = c .before .before .before .before .before .before .before in
+    let s : tie.Start = c .before .before .before .before .before .before .before .before .before in
     record { fitted = s .pre .0 .third; below = third s }
 
 returns-3 : tie.Need-returns-3

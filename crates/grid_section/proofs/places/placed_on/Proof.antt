@@ -1,6 +1,7 @@
 -- `placed_on` meets its contract: a processor that passes question 8 is one of the grid's.
 use mathlib.Core.Path.{_≡_, sym, ap, _∙_, subst}
 use mathlib.Core.Bool.{true}
+use native.Mathlib.Omega.{arith}
 use borrow.Author.Needs.{needs}
 use lib.IntN.{pos}
 use mir.Syntax.{w64}
@@ -22,7 +23,7 @@ returns : tie.Need-returns
 unfolding firstPlaceOn
 returns c =
     let s : tie.Start = c .before .before .before .before .before in
-    rw (said-no (isBelow (pos (processorsOn (s .args .x)))) (s .args .processor) (s .fits .processor) (c .before .is-processor .ensures) (c .if1 .taken))
+    (rw (said-no (isBelow (pos (processorsOn (s .args .x)))) (s .args .processor) (s .fits .processor) (c .before .is-processor .ensures) (c .if1 .taken)), (omega arith, tt))
 
 natural-requires : tie.Need-natural-requires
 natural-requires c κs = search needs
@@ -61,7 +62,7 @@ returns-2 c =
     let s = start n in
     let place =
     c .first-on .ensures ∙ ap firstBy (c .before .shares-of .ensures ∙ ap (sharesOn (s .args .x) (s .args .b .now) (s .args .c .now) (s .args .d .now)) (number n)) in
-    rw (holds n) (λ i. record { refusal = 0; place = place i })
+    (rw (holds n) (λ i. record { refusal = 0; place = place i }), tt)
 
 pub placed-on-spec : {M : Type 1} → statement M
 placed-on-spec =

@@ -21,7 +21,7 @@ report-of-requires c κs =
 returns : tie.Need-returns
 returns c =
     let s : tie.Start = c .before .before .before in
-    c .report-of .ensures ∙ ap (stepsReport (s .args .x .section .count)) (c .before .steps-by .ensures)
+    (c .report-of .ensures .0 ∙ ap (stepsReport (s .args .x .section .count)) (c .before .steps-by .ensures), c .report-of .ensures .1)
 
 pub report-on-spec : {M : Type 1} → statement M
 report-on-spec = tie.close (tie.spec steps-by-requires report-of-requires returns)

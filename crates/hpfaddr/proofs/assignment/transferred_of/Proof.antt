@@ -51,7 +51,7 @@ returns : tie.Need-returns
 returns c =
     let done = c .before .before .before .before .before .before .before in
     let a = with-size TransferredFits (c .fields-of .ensures ∙ answer done) (transfers-small _) in
-    ((a .0, done .transfers .ensures .1 ∙ ap listsAfter (read (done .before .before .before .before .before .before .before .before .before))), a .1)
+    ((a .0, done .transfers .ensures .1 .0 ∙ ap listsAfter (read (done .before .before .before .before .before .before .before .before .before))), a .1)
 
 pub transferred-of-spec : {M : Type 1} → statement M
 transferred-of-spec =

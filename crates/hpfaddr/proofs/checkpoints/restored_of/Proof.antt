@@ -19,7 +19,7 @@ returns : tie.Need-returns
 returns c =
     let done = c .before .before .before in
     let a = with-size CopiedFits (c .fields-of .ensures ∙ done .load .ensures .0) (copying-small _) in
-    ((a .0, done .load .ensures .1 .1, done .load .ensures .1 .0), a .1)
+    ((a .0, done .load .ensures .1 .1 .0, done .load .ensures .1 .0), a .1)
 
 pub restored-of-spec : {M : Type 1} → statement M
 restored-of-spec = tie.close (tie.spec load-requires fields-of-requires same-length returns)

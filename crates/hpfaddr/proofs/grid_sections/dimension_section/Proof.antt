@@ -3,7 +3,7 @@ use mathlib.Core.Path.{_∙_}
 use borrow.Author.Needs.{needs}
 use mir.Syntax.{w64}
 use mir.ValLaws.{toZ-ofZ}
-use Rattle.section.specs.Strides.{tripletOf}
+use Rattle.model.specs.Sections.{tripletOf}
 use Rattle.hpfaddr.proofs.grid_sections.dimension_section.Statement.{statement}
 use Rattle.hpfaddr.proofs.grid_sections.dimension_section.Tie as tie
 

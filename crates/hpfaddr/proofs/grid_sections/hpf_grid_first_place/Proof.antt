@@ -28,7 +28,7 @@ answer c =
     let s : tie.Start = made .before .before .before .before in
     let a = s .args in
     let q = toZ-ofZ w64 (a .processor) (s .fits .processor) in
-    c .first-place .ensures
+    c .first-place .ensures .0
     ∙ (λ i. gridFirstPlace (gridSectionWith (made .grid-section-of .ensures i) (a .first-sizes .now) (a .second-sizes .now) (a .third-sizes .now)) (q i))
 
 fields-of-place-requires : tie.Need-fields-of-place-requires

@@ -24,7 +24,7 @@ returns c =
     let made = stepped .before in
     let a = made .before .before .before .before .args in
     with-size GridStepsFit
-    (c .fields-of-grid .ensures ∙ stepped .section-steps .ensures
+    (c .fields-of-grid .ensures ∙ stepped .section-steps .ensures .0
     ∙ (λ i. gridSteps (gridSectionWith (made .grid-section-of .ensures i) (a .first-sizes .now) (a .second-sizes .now) (a .third-sizes .now))))
     (grid-steps-small _)
 

@@ -29,7 +29,7 @@ answer c =
     let a = s .args in
     let q = toZ-ofZ w64 (a .processor) (s .fits .processor) in
     let x = toZ-ofZ w64 (a .address) (s .fits .address) in
-    c .going-back .ensures
+    c .going-back .ensures .0
     ∙ (λ i. gridGoingBack (gridWith (made .grid-of .ensures i) (a .first-sizes .now) (a .second-sizes .now) (a .third-sizes .now)) (q i) (x i))
 
 fields-of-found-requires : tie.Need-fields-of-found-requires

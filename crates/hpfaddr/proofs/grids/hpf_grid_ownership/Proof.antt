@@ -31,7 +31,7 @@ answer c =
     let j = toZ-ofZ w64 (a .first) (s .fits .first) in
     let k = toZ-ofZ w64 (a .second) (s .fits .second) in
     let l = toZ-ofZ w64 (a .third) (s .fits .third) in
-    c .ownership .ensures
+    c .ownership .ensures .0
     ∙ (λ i. gridOwnership (gridWith (made .grid-of .ensures i) (a .first-sizes .now) (a .second-sizes .now) (a .third-sizes .now)) (indicesFrom (j i) (k i) (l i)))
 
 fields-of-requires : tie.Need-fields-of-requires

@@ -21,7 +21,7 @@ section s = sectionWith (s .args .x) (s .args .sizes .now)
 answer : (c : tie.After-first-place) → let s : tie.Start = c .before .before in placedAs (c .first-place .result) ≡ firstPlaceAt (section s) (s .args .processor)
 answer c =
     let s = c .before .before in
-    c .first-place .ensures ∙ (λ i. firstPlaceAt (section s) (toZ-ofZ w64 (s .args .processor) (s .fits .processor) i))
+    c .first-place .ensures .0 ∙ (λ i. firstPlaceAt (section s) (toZ-ofZ w64 (s .args .processor) (s .fits .processor) i))
 
 fields-of-place-requires : tie.Need-fields-of-place-requires
 fields-of-place-requires c κs = with-size PlacedFits (answer c) (first-place-small _ _) .1

@@ -13,7 +13,7 @@ fields-of-steps-requires : tie.Need-fields-of-steps-requires
 fields-of-steps-requires c κs = search needs
 
 returns : tie.Need-returns
-returns c = with-size StepsFit (c .fields-of-steps .ensures ∙ c .before .section-steps .ensures) (section-steps-small _)
+returns c = with-size StepsFit (c .fields-of-steps .ensures ∙ c .before .section-steps .ensures .0) (section-steps-small _)
 
 pub steps-of-spec : {M : Type 1} → statement M
 steps-of-spec = tie.close (tie.spec section-steps-requires fields-of-steps-requires returns)

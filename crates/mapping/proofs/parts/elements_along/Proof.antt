@@ -16,7 +16,7 @@ sub-result c =
     let second = c .before .before in
     let first = second .before in
     let s = first .before in
-    omega (arith, cut-rises (s .args .l) (s .pre .0) (s .args .r .start) (s .args .r .end) (s .pre .1), second .index-from2 .ensures, first .index-from .ensures)
+    omega (arith, cut-rises (s .args .l) (s .pre .0) (s .args .r .start .0) (s .args .r .end .0) (s .pre .1), second .index-from2 .ensures, first .index-from .ensures)
 
 returns : tie.Need-returns
 returns c = cc (c .before .before .index-from2 .ensures, c .before .before .before .index-from .ensures)

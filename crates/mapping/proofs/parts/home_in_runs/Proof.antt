@@ -49,7 +49,7 @@ module _ (c : tie.After-owner-in) where
   owner-is : c .owner-in .result .processor ≡ runOwner runs cell
   owner-is = c .owner-in .ensures .0 ∙ ap (runOwner runs) (c .before .cell-of .ensures)
 
-  starts : c .owner-in .result .start ≡ runStart runs (runOwner runs cell)
+  starts : c .owner-in .result .start .0 ≡ runStart runs (runOwner runs cell)
   starts = c .owner-in .ensures .1 ∙ ap (runStart runs) owner-is
 
   -- the elements of the owner
@@ -75,8 +75,8 @@ first-is c =
     c .index-from .ensures ∙ ap (indexFrom (s .args .l)) (starts o)
     ∙ ap (λ (ws : List ℕ). indexFrom (s .args .l) (runStart ws (runOwner ws (cell o)))) (sym (listed s .words))
 
-sub-t8 : tie.Need-sub-t8
-sub-t8 c =
+sub-x : tie.Need-sub-x
+sub-x c =
     let f = c .before .before in
     let s = start (f .before) in
     omega (arith, first-is f, home (f .before) .only (s .args .i .0) (s .pre .2) refl .0)
@@ -92,4 +92,4 @@ returns c =
 
 pub home-in-runs-spec : {M : Type 1} → statement M
 home-in-runs-spec =
-    tie.close (tie.spec cell-of-requires owner-in-requires index-from-requires sub-t8 returns)
+    tie.close (tie.spec cell-of-requires owner-in-requires index-from-requires sub-x returns)

@@ -41,7 +41,7 @@ returns-2 : tie.Need-returns-2
 returns-2 c =
     let told = c .before in
     let s = told .before .before .before in
-    let same = ap (λ (ws : List ℕ). Run (record { start = runStart ws (s .args .q); end = runStart ws (suc (s .args .q)) })) (sym (listed told .words)) in (
+    let same = ap (λ (ws : List ℕ). Run (record { start = record { 0 = runStart ws (s .args .q) }; end = record { 0 = runStart ws (suc (s .args .q)) } })) (sym (listed told .words)) in (
       ap Run (c .run-of .ensures .0) ∙ same
           ∙ sym (ap (λ (d : Dealing). partIn (dealingWith d (s .args .sizes .now)) (s .args .q)) (told .enum-told2 .given .1)),
       c .run-of .ensures .1,

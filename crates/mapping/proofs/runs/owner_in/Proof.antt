@@ -13,11 +13,11 @@ use Rattle.mapping.proofs.runs.owner_in.Statement.{statement}
 use Rattle.mapping.proofs.runs.owner_in.Tie as tie
 
 abbrev Inv-loop : tie.InvT-loop
-Inv-loop sizes c n q₀ start₀ q start =
-    (q ≤ n) × (start ≡ runStart (wordsOf 4 sizes) q) × (start ≤ c) × (start ≤ 4294967296 * q)
+Inv-loop sizes cell n q₀ start₀ q start =
+    (q ≤ n) × (start ≡ runStart (wordsOf 4 sizes) q) × (start ≤ cell) × (start ≤ 4294967296 * q)
 
 abbrev μ-loop : tie.MeasureT-loop
-μ-loop sizes c n q₀ start₀ q start = n - q
+μ-loop sizes cell n q₀ start₀ q start = n - q
 
 loop-holds : tie.Need-loop-holds Inv-loop μ-loop
 unfolding runStart sum
@@ -75,7 +75,7 @@ returns-2 c =
     let l = w .before .before in
     let s = l .before .before in
     let ws = wordsOf 4 (s .args .sizes .now) in (
-      sym (run-owner ws (s .args .c) (l .loop .q) (omega (arith, l .loop .inv .1, l .loop .inv .2)) (omega (arith, c .if1 .taken, run-end w, next-start ws (l .loop .q)))),
+      sym (run-owner ws (s .args .c .0) (l .loop .q) (omega (arith, l .loop .inv .1, l .loop .inv .2)) (omega (arith, c .if1 .taken, run-end w, next-start ws (l .loop .q)))),
       l .loop .inv .1,
     )
 

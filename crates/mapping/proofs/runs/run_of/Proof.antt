@@ -15,11 +15,11 @@ start-of-requires c κs = (omega (arith, c .before .pre .0), c .before .pre .1)
 word-at-requires : tie.Need-word-at-requires
 word-at-requires c κs = search needs
 
-cast-t5 : tie.Need-cast-t5
-cast-t5 c = omega (arith, c .word-at .ok)
+cast-end : tie.Need-cast-end
+cast-end c = omega (arith, c .word-at .ok)
 
-add-t6 : tie.Need-add-t6
-add-t6 c =
+add-end : tie.Need-add-end
+add-end c =
     let s = c .before in
     omega (arith, c .word-at .ok, s .start-of .ensures .1, s .before .before .pre .0, s .before .before .pre .1)
 
@@ -34,4 +34,4 @@ returns c =
     (cc (start, end), (omega arith, omega (arith, c .word-at .ok, s .start-of .ensures .1, a .pre .0, a .pre .1)))
 
 pub run-of-spec : {M : Type 1} → statement M
-run-of-spec = tie.close (tie.spec start-of-requires word-at-requires cast-t5 add-t6 returns)
+run-of-spec = tie.close (tie.spec start-of-requires word-at-requires cast-end add-end returns)

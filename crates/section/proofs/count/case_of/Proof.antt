@@ -6,11 +6,11 @@ use borrow.Author.Needs.{needs}
 use lib.IntN.{ℤ, pos, _-ℤ_}
 use mir.Syntax.{w64}
 use Rattle.numbers.proofs.Signed.{back}
+use Rattle.model.specs.declared.Case.the-variants.{Forward, Backward}
 use Rattle.model.specs.Ownership.{nat}
+use Rattle.model.specs.Sections.{tripletOf}
 use Rattle.model.proofs.AcceptedLaws.{Ranged, ranged}
 use Rattle.mapping.proofs.Signs.{bound-read}
-use Rattle.section.specs.declared.count.Case.the-variants.{Forward, Backward}
-use Rattle.section.specs.Strides.{tripletOf}
 use Rattle.section.proofs.Differences.{difference-fits, difference-read}
 use Rattle.section.proofs.CaseLaws.{is-forward, is-backward, is-empty}
 use Rattle.section.proofs.count.case_of.Statement.{statement}

@@ -8,11 +8,10 @@ use mir.Syntax.{w64}
 use mir.Val.{Fits}
 use mir.ValLaws.{toZ-ofZ}
 use Rattle.model.specs.declared.Triplet.{Triplet}
-use Rattle.model.specs.Sections.{countOf}
-use Rattle.section.specs.declared.count.Case.{Case}
-use Rattle.section.specs.Strides.{tripletOf}
-use Rattle.section.specs.Cases.{caseOf, elementsIn, Divides}
-use Rattle.section.proofs.CaseLaws.{by-cases, divides}
+use Rattle.model.specs.declared.Case.{Case}
+use Rattle.model.specs.Sections.{tripletOf, countOf}
+use Rattle.model.specs.Cases.{caseOf, elementsIn, Divides}
+use Rattle.model.proofs.CaseLaws.{by-cases}
 use Rattle.section.proofs.count.count_of.Statement.{statement}
 use Rattle.section.proofs.count.count_of.Tie as tie
 
@@ -38,11 +37,11 @@ module _ (c : tie.After-case-of) {k : Case} (e : c .case-of .result ≡ k) where
 
   known : Divides k
   unfolding start asked
-  known = subst Divides (sym found) (divides asked (start .pre))
+  known = subst Divides (sym found) (by-cases asked (start .pre) .divides)
 
   counted : elementsIn k ≡ countOf asked
   unfolding start asked
-  counted = ap elementsIn found ∙ by-cases asked (start .pre)
+  counted = ap elementsIn found ∙ by-cases asked (start .pre) .counted
 
 case-of-requires : tie.Need-case-of-requires
 case-of-requires c κs = search needs

@@ -6,47 +6,54 @@ use borrow.Author.Needs.{needs}
 use lib.IntN.{ℤ, pos, natAbs, _+ℤ_, _*ℤ_}
 use mir.Syntax.{w64}
 use mir.Val.{SFits, toZ}
-use mir.ValLaws.{toZ-ofZ, toZ-pos}
+use mir.ValLaws.{toZ-pos}
 use Rattle.numbers.proofs.Division.{product-le}
 use Rattle.numbers.proofs.Signed.{size-add, size-mul, small-fits, back, fits-as, back-as}
+use Rattle.mapping.proofs.Signs.{bound-read}
 use Rattle.section.proofs.count.element_at.Statement.{statement}
 use Rattle.section.proofs.count.element_at.Tie as tie
 
 module _ (c : tie.Start) where
   distance : ℤ
-  distance = pos (c .args .t) *ℤ c .args .s
+  distance = pos (c .args .t .0) *ℤ c .args .s
 
   far : natAbs distance ≤ 4294967295 * 2147483647
   unfolding distance
-  far = omega (arith, size-mul (pos (c .args .t)) (c .args .s), product-le 4294967295 2147483647 (c .pre .2) (c .pre .1))
+  far = omega (arith, size-mul (pos (c .args .t .0)) (c .args .s), product-le 4294967295 2147483647 (c .pre .2) (c .pre .1))
 
-  product : toZ w64 (c .args .t) *ℤ back w64 (c .args .s) ≡ distance
+  product : toZ w64 (c .args .t .0) *ℤ back w64 (c .args .s) ≡ distance
   unfolding distance
-  product = λ i. toZ-pos w64 (c .args .t) (omega arith) i *ℤ toZ-ofZ w64 (c .args .s) (c .fits .s) i
+  product = λ i. toZ-pos w64 (c .args .t .0) (omega arith) i *ℤ bound-read (c .args .s) (c .pre .1) i
 
   product-fits : SFits w64 distance
   product-fits = small-fits w64 distance (omega (arith, far))
 
-  sum : back w64 (c .args .l) +ℤ back w64 (toZ w64 (c .args .t) *ℤ back w64 (c .args .s)) ≡ c .args .l +ℤ distance
-  sum = λ i. toZ-ofZ w64 (c .args .l) (c .fits .l) i +ℤ back-as w64 product product-fits i
+  sum : back w64 (c .args .l .0) +ℤ back w64 (toZ w64 (c .args .t .0) *ℤ back w64 (c .args .s)) ≡ c .args .l .0 +ℤ distance
+  sum = λ i. bound-read (c .args .l .0) (c .pre .0) i +ℤ back-as w64 product product-fits i
 
-  sum-fits : SFits w64 (c .args .l +ℤ distance)
-  sum-fits = small-fits w64 (c .args .l +ℤ distance) (omega (arith, far, size-add (c .args .l) distance, c .pre .0))
+  sum-small : natAbs (c .args .l .0 +ℤ distance) ≤ 9223372034707292160
+  sum-small = omega (arith, far, size-add (c .args .l .0) distance, c .pre .0)
 
-cast-result : tie.Need-cast-result
-cast-result c = search needs
+  sum-fits : SFits w64 (c .args .l .0 +ℤ distance)
+  sum-fits = small-fits w64 (c .args .l .0 +ℤ distance) (omega (arith, sum-small))
 
-mul-result : tie.Need-mul-result
+cast-t4 : tie.Need-cast-t4
+cast-t4 c = search needs
+
+mul-t5 : tie.Need-mul-t5
 unfolding distance
-mul-result c = fits-as w64 (product c) (product-fits c)
+mul-t5 c = let s = c .before in fits-as w64 (product s) (product-fits s)
 
-add-result : tie.Need-add-result
+add-t6 : tie.Need-add-t6
 unfolding distance
-add-result c = fits-as w64 (sum c) (sum-fits c)
+add-t6 c = let s = c .before .before .before in fits-as w64 (sum s) (sum-fits s)
 
 returns : tie.Need-returns
 unfolding distance
-returns c = back-as w64 (sum c) (sum-fits c)
+returns c =
+    let s = c .before .before .before in
+    let read = back-as w64 (sum s) (sum-fits s) in
+    (read, rw read (sum-small s))
 
 pub element-at-spec : {M : Type 1} → statement M
-element-at-spec = tie.close (tie.spec cast-result mul-result add-result returns)
+element-at-spec = tie.close (tie.spec cast-t4 mul-t5 add-t6 returns)

@@ -1,12 +1,12 @@
 -- `place_of` meets its contract: what it works out, and the law of the direction that it goes.
-use Prim.Native.Nat.{ℕ, _+_, _*_, _≤_, _<_}
+use Prim.Native.Nat.{ℕ, _+_, _*_, _%_, _≤_, _<_}
 use mathlib.Core.Path.{ap, _∙_}
 use native.Mathlib.Nat.{mod-lt, le-of-lt, pos-of-ne-zero}
 use native.Mathlib.Omega.{arith}
 use borrow.Author.Needs.{needs}
 use Rattle.section.specs.Places.{foundBelow}
 use Rattle.section.proofs.StridedLaws.{course-some}
-use Rattle.section.proofs.PlaceLaws.{Worked, m-pos, m-high, room, block-up, block-down, place-none, place-up, place-down}
+use Rattle.section.proofs.PlaceLaws.{Worked, m-pos, m-high, room, block-in, place-none, place-up, place-down}
 use Rattle.section.proofs.place.place_of.Statement.{statement}
 use Rattle.section.proofs.place.place_of.Tie as tie
 
@@ -62,6 +62,9 @@ module _ (c : tie.After-spread-of) where
   small : m ≤ 67108864
   small = m-high worked (start .pre .0)
 
+  column-low : c .before .before .cell-of .result .0 % m < m
+  column-low = mod-lt (c .before .before .cell-of .result .0) some
+
 rem-s : tie.Need-rem-s
 rem-s c = some c
 
@@ -70,7 +73,7 @@ mul-low c = omega (arith, block-room c, small c)
 
 first-owned-requires : tie.Need-first-owned-requires
 first-owned-requires c κs =
-    let s = start (c .before) in block-up (worked (c .before)) (s .pre .0) (s .args .q) (s .pre .1)
+    block-in (worked (c .before)) (start (c .before) .pre .0) (column-low (c .before)) (block-room (c .before))
 
 found-below-requires : tie.Need-found-below-requires
 found-below-requires c κs = search needs
@@ -86,7 +89,7 @@ sub-column : tie.Need-sub-column
 sub-column c = some (c .before)
 
 sub-column-2 : tie.Need-sub-column-2
-sub-column-2 c = omega (arith, mod-lt (c .before .before .before .cell-of .result .0) (some (c .before)))
+sub-column-2 c = omega (arith, column-low (c .before))
 
 add-block : tie.Need-add-block
 add-block c = omega (arith, block-room (c .before), small (c .before))
@@ -96,7 +99,8 @@ sub-block c = block-room (c .before)
 
 first-owned-requires-2 : tie.Need-first-owned-requires-2
 first-owned-requires-2 c κs =
-    let s = start (c .before) in block-down (worked (c .before)) (s .pre .0) (s .args .q) (s .pre .1)
+    let b = c .before in
+    block-in (worked b) (start b .pre .0) (omega (arith, column-low b, some b)) (omega (arith, block-room b))
 
 found-below-requires-2 : tie.Need-found-below-requires-2
 found-below-requires-2 c κs = search needs

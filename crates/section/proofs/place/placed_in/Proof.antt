@@ -1,6 +1,7 @@
 -- `placed_in` meets its contract: a processor that passes question 8 is one of the layout's.
 use mathlib.Core.Path.{_≡_, sym, ap, _∙_, subst}
 use mathlib.Core.Bool.{true}
+use native.Mathlib.Omega.{arith}
 use borrow.Author.Needs.{needs}
 use lib.IntN.{ℤ, pos}
 use mir.Syntax.{w64}
@@ -26,7 +27,7 @@ unfolding firstPlaceIn
 returns c =
     let s : tie.Start = c .before .before .before .before in
     let test = isBelow (pos (s .args .w .layout .processors)) in
-    rw (said-no test (s .args .processor) (s .fits .processor) (c .before .is-processor .ensures) (c .if1 .taken))
+    (rw (said-no test (s .args .processor) (s .fits .processor) (c .before .is-processor .ensures) (c .if1 .taken)), (omega arith, tt))
 
 module _ (c : tie.Else1) where
   abbrev start : tie.Start
@@ -64,7 +65,7 @@ returns-2 : tie.Need-returns-2
 unfolding firstPlaceIn
 returns-2 c =
     let place = c .first-of .ensures ∙ ap placeBy (share-is (c .before)) in
-    rw (holds (c .before .before)) (λ i. record { refusal = 0; place = place i })
+    (rw (holds (c .before .before)) (λ i. record { refusal = 0; place = place i }), tt)
 
 pub placed-in-spec : {M : Type 1} → statement M
 placed-in-spec = tie.close (tie.spec is-processor-requires returns share-of-requires first-of-requires returns-2)

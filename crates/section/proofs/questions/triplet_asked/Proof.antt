@@ -13,11 +13,11 @@ use mir.ValLaws.{toZ-ofZ}
 use Rattle.numbers.proofs.Signed.{size-sub, small-fits, back, read-of, fits-as, back-as}
 use Rattle.model.specs.declared.Triplet.{Triplet}
 use Rattle.model.specs.Ownership.{nat}
-use Rattle.model.specs.Sections.{countOf}
+use Rattle.model.specs.Sections.{tripletOf, countOf}
 use Rattle.model.specs.Questions.{inRange}
 use Rattle.model.proofs.AcceptedLaws.{Ranged, ranged}
 use Rattle.section.specs.declared.questions.Asked.the-variants.{By}
-use Rattle.section.specs.Strides.{tripletOf, endsIn}
+use Rattle.section.specs.Strides.{endsIn}
 use Rattle.section.proofs.TripletAnswers.{count-small, range-refused, ends-refused, triplet-accepted}
 use Rattle.section.proofs.questions.triplet_asked.Statement.{statement}
 use Rattle.section.proofs.questions.triplet_asked.Tie as tie
@@ -80,24 +80,27 @@ module _ (c : tie.After-count-of) where
       let s = start (c .before) in
       omega (arith, count-is, count-small (s .args .l) (s .args .h) (s .args .s) (in-range (c .before)))
 
-sub-first : tie.Need-sub-first
-sub-first c = let e1 = c .before in fits-as w64 (taken e1) (from-fits e1)
-
 ends-in-requires : tie.Need-ends-in-requires
 ends-in-requires c κs =
     let e1 = c .before in
     let s = start e1 in
-    rw (back-as w64 (taken e1) (from-fits e1), toZ-ofZ w64 (s .args .s) (s .fits .s)) (from-small e1, small e1 .step, few c)
+    rw (
+      toZ-ofZ w64 (s .args .lower) (s .fits .lower),
+      toZ-ofZ w64 (s .args .l) (s .fits .l),
+      toZ-ofZ w64 (s .args .s) (s .fits .s),
+    )
+    (s .pre, small e1 .lower, small e1 .step, few c)
 
 -- the answer to question 7
 ends : (c : tie.After-ends-in)
-    → let s : tie.Start = start (c .before .before) in c .ends-in .result ≡ endsIn (s .args .m .size) (from (c .before .before)) (s .args .s) (countOf (asked s))
+    → let s : tie.Start = start (c .before .before) in c .ends-in .result ≡ endsIn (s .args .m .size) (s .args .lower) (s .args .l) (s .args .s) (countOf (asked s))
 ends c =
     let e1 = c .before .before in
     let s = start e1 in
-    let first = back-as w64 (taken e1) (from-fits e1) in
+    let lower = toZ-ofZ w64 (s .args .lower) (s .fits .lower) in
+    let l = toZ-ofZ w64 (s .args .l) (s .fits .l) in
     let step = toZ-ofZ w64 (s .args .s) (s .fits .s) in
-    c .ends-in .ensures ∙ (λ i. endsIn (s .args .m .size) (first i) (step i) (count-is (c .before) i))
+    c .ends-in .ensures ∙ (λ i. endsIn (s .args .m .size) (lower i) (l i) (step i) (count-is (c .before) i))
 
 returns-2 : tie.Need-returns-2
 returns-2 c =
@@ -105,6 +108,9 @@ returns-2 c =
     let s = start e1 in
     ends-refused (s .args .m) (s .args .lower) (s .args .l) (s .args .h) (s .args .s) (in-range e1)
     (sym (ends (c .before)) ∙ not-true _ (c .if2 .taken))
+
+sub-natural : tie.Need-sub-natural
+sub-natural c = let e1 = c .before .before .before in fits-as w64 (taken e1) (from-fits e1)
 
 natural-requires : tie.Need-natural-requires
 natural-requires c κs = search needs
@@ -126,7 +132,7 @@ returns-3 c =
     let first = n .natural .ensures ∙ ap nat (back-as w64 (taken e1) (from-fits e1)) in
     let stride = read-of w64 natAbs (s .args .s) (s .fits .s) (c .size-of .ensures) in
     let up = ap (leZ (pos 0)) (toZ-ofZ w64 (s .args .s) (s .fits .s)) in
-    (λ i. By (record { layout = s .args .m; count = count i; first = first i; stride = stride i; upward = up i }))
+    (λ i. By (record { layout = s .args .m; count = count i; first = record { 0 = first i }; stride = stride i; upward = up i }))
     ∙ triplet-accepted (s .args .m) (s .args .lower) (s .args .l) (s .args .h) (s .args .s) (in-range e1)
     (sym (ends (e2 .before)) ∙ not-false _ (e2 .if2 .left))
 
@@ -137,9 +143,9 @@ triplet-asked-spec =
     in-range-requires
     returns
     count-of-requires
-    sub-first
     ends-in-requires
     returns-2
+    sub-natural
     natural-requires
     size-of-requires
     returns-3)

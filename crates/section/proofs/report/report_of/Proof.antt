@@ -28,23 +28,27 @@ report-step-requires-3 c κs =
     let arm = c .before .before in subst (Short 2147483647) (arm .s2 .given .1) (arm .before .before .pre) .1
 
 returns : tie.Need-returns
-returns c = ap (stepsReport (c .before .before .args .count)) (sym (c .enum-told .given .1))
+returns c = (ap (stepsReport (c .before .before .args .count)) (sym (c .enum-told .given .1)), tt)
 
 returns-2 : tie.Need-returns-2
 returns-2 c =
     let arm = c .before .before in
-    let n = arm .before .before .args .count in
-    (λ i. record { refusal = 0; count = n; steps = 1; first = c .report-step .ensures i; second = noReport })
-    ∙ ap (stepsReport n) (sym (arm .s .given .1))
+    let n = arm .before .before .args .count in (
+      (λ i. record { refusal = 0; count = n; steps = 1; first = c .report-step .ensures i; second = noReport })
+          ∙ ap (stepsReport n) (sym (arm .s .given .1)),
+      tt,
+    )
 
 returns-3 : tie.Need-returns-3
 returns-3 c =
     let arm = c .before .before .before in
     let n = arm .before .before .args .count in
     let first = c .before .report-step2 .ensures in
-    let second = c .report-step3 .ensures in
-    (λ i. record { refusal = 0; count = n; steps = 2; first = first i; second = second i })
-    ∙ ap (stepsReport n) (sym (arm .s2 .given .1))
+    let second = c .report-step3 .ensures in (
+      (λ i. record { refusal = 0; count = n; steps = 2; first = first i; second = second i })
+          ∙ ap (stepsReport n) (sym (arm .s2 .given .1)),
+      tt,
+    )
 
 pub report-of-spec : {M : Type 1} → statement M
 report-of-spec =

@@ -4,7 +4,7 @@ use Rattle.section.proofs.shares.first_in.Statement.{statement}
 use Rattle.section.proofs.shares.first_in.Tie as tie
 
 returns : tie.Need-returns
-returns c = rw (lt-ltb _ _ (c .if1 .taken))
+returns c = rw (lt-ltb _ _ (c .before .if1 .taken))
 
 returns-2 : tie.Need-returns-2
 returns-2 c = rw (le-ltb _ _ (c .if1 .left))

@@ -54,9 +54,9 @@ returns c =
     let a = c .before in
     let s = a .before .before in
     let w = start s .args .w in
-    let way = a .above .ensures ∙ ap (λ (n : ℕ). start s .args .c - n) (first s) in
+    let way = a .above .ensures ∙ ap (λ (n : ℕ). start s .args .c .0 - n) (first s) in
     c .multiples-below .ensures ∙ (λ i. multiplesBelow (s .spread-of .ensures i) (w .count) (way i))
-    ∙ turned w (start s .args .c) (a .before .if1 .taken)
+    ∙ turned w (start s .args .c .0) (a .before .if1 .taken)
 
 add-above : tie.Need-add-above
 add-above c = omega (arith, low (c .before))
@@ -73,9 +73,9 @@ returns-2 c =
     let a = c .before in
     let s = a .before .before in
     let w = start s .args .w in
-    let way = a .above2 .ensures ∙ ap (λ (n : ℕ). n - start s .args .c) (add-one _ ∙ ap suc (first s)) in
+    let way = a .above2 .ensures ∙ ap (λ (n : ℕ). n - start s .args .c .0) (add-one _ ∙ ap suc (first s)) in
     c .multiples-below2 .ensures ∙ (λ i. multiplesBelow (s .spread-of .ensures i) (w .count) (way i))
-    ∙ turned w (start s .args .c) (a .before .if1 .left)
+    ∙ turned w (start s .args .c .0) (a .before .if1 .left)
 
 pub positions-to-spec : {M : Type 1} → statement M
 positions-to-spec =

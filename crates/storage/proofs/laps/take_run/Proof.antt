@@ -28,33 +28,33 @@ place-written-requires : tie.Need-place-written-requires
 place-written-requires c κs = search needs
 
 -- what is taken of the run
-cut : (c : tie.After-least) → let s : tie.Start = c .before .before .before .before .before in
+cut : (c : tie.After-least) → let s : tie.Start = c .before .before .before .before .before .before in
     Cut (s .args .l .size) (s .args .r) (c .least .result)
-cut c = rw (c .least .ensures) (least-cut (c .before .before .before .before .before .pre))
+cut c = rw (c .least .ensures) (least-cut (c .before .before .before .before .before .before .pre))
 
 -- where the pointer moves to
 moved : (c : tie.After-place-of) → c .place-of .result + c .before .before .least .result ≤ 2147483647
 moved c =
     let taken = c .before .before in
-    let s = taken .before .before .before .before .before in
+    let s = taken .before .before .before .before .before .before in
     omega (arith, c .place-of .ensures, at-room (s .pre) (cut taken), s .pre .sized .size-high)
 
 copy-run-requires : tie.Need-copy-run-requires
 copy-run-requires c κs =
     let written = c .before in
     let read = written .before in
-    let at = read .before .place-of .ensures in
-    let k = cut (read .before .before .before) in
-    let s = read .before .before .before .before .before .before .before .before in (
+    let at = read .before .before .place-of .ensures in
+    let k = cut (read .before .before .before .before) in
+    let s = read .before .before .before .before .before .before .before .before .before .before in (
       rw (read .place-read .ensures, at) (read-room (s .pre) k (s .args .loading)),
       rw (written .place-written .ensures, at) (write-room (s .pre) k (s .args .loading)),
     )
 
 add-row : tie.Need-add-row
-add-row c = omega (arith, moved (c .before .before .before .before .before .before))
+add-row c = omega (arith, moved (c .before .before .before .before .before .before .before))
 
 cast-row : tie.Need-cast-row
-cast-row c = omega (arith, moved (c .before .before .before .before .before .before))
+cast-row c = omega (arith, moved (c .before .before .before .before .before .before .before))
 
 mul-row : tie.Need-mul-row
 mul-row c = search needs
@@ -64,8 +64,8 @@ slice-write-row c = search needs
 
 next-run-requires : tie.Need-next-run-requires
 next-run-requires c κs =
-    let taken = c .before .before .before .before .before .before .before .before in
-    next-within (taken .before .before .before .before .before .pre) (cut taken)
+    let taken = c .before .before .before .before .before .before .before .before .before in
+    next-within (taken .before .before .before .before .before .before .pre) (cut taken)
 
 same-length : tie.Need-same-length
 same-length c = search needs
@@ -78,9 +78,9 @@ returns c =
     let copied = c .before .before .before in
     let written = copied .before .before in
     let read = written .before in
-    let at = read .before .place-of .ensures in
-    let taken = read .before .before .before in
-    let s = taken .before .before .before .before .before in
+    let at = read .before .before .place-of .ensures in
+    let taken = read .before .before .before .before in
+    let s = taken .before .before .before .before .before .before in
     rw (c .next-run .ensures)
     (takes (s .pre) (cut taken) (s .args .loading) _ _ (rw at)
     (rw (read .place-read .ensures, written .place-written .ensures, at) at (copied .copy-run .ensures)))

@@ -18,8 +18,8 @@ length-at-requires c κs = search needs
 div-t5 : tie.Need-div-t5
 div-t5 c = search needs
 
-sub-t8 : tie.Need-sub-t8
-sub-t8 c =
+sub-t9 : tie.Need-sub-t9
+sub-t9 c =
     let s = c .before .before .before .before in
     omega (arith, c .before .length-at .ensures, first-fits (s .args .l) (s .pre .0) (s .args .p) (s .pre .1))
 
@@ -32,4 +32,4 @@ returns c = rw (c .before .before .length-at .ensures, c .owner-of .ensures)
 pub first-run-spec : {M : Type 1} → statement M
 first-run-spec =
     tie.close
-    (tie.spec rem-column rem-begin length-at-requires div-t5 sub-t8 owner-of-requires returns)
+    (tie.spec rem-column rem-begin length-at-requires div-t5 sub-t9 owner-of-requires returns)

@@ -4,8 +4,8 @@ use borrow.Author.Needs.{needs}
 use Rattle.storage.proofs.runs.next_run.Statement.{statement}
 use Rattle.storage.proofs.runs.next_run.Tie as tie
 
-add-index : tie.Need-add-index
-add-index c = search needs
+add-t8 : tie.Need-add-t8
+add-t8 c = search needs
 
 add-column : tie.Need-add-column
 add-column c = search needs
@@ -13,8 +13,8 @@ add-column c = search needs
 length-at-requires : tie.Need-length-at-requires
 length-at-requires c κs = search needs
 
-add-t9 : tie.Need-add-t9
-add-t9 c = search needs
+add-t11 : tie.Need-add-t11
+add-t11 c = search needs
 
 returns : tie.Need-returns
 returns c =
@@ -25,8 +25,8 @@ returns c =
 length-at-requires-2 : tie.Need-length-at-requires-2
 length-at-requires-2 c κs = search needs
 
-add-t11 : tie.Need-add-t11
-add-t11 c = search needs
+add-t13 : tie.Need-add-t13
+add-t13 c = search needs
 
 returns-2 : tie.Need-returns-2
 returns-2 c =
@@ -38,11 +38,11 @@ pub next-run-spec : {M : Type 1} → statement M
 next-run-spec =
     tie.close
     (tie.spec
-    add-index
+    add-t8
     add-column
     length-at-requires
-    add-t9
+    add-t11
     returns
     length-at-requires-2
-    add-t11
+    add-t13
     returns-2)

@@ -8,8 +8,8 @@ use Rattle.storage.proofs.runs.next_word.Tie as tie
 add-t4 : tie.Need-add-t4
 add-t4 c = search needs
 
-add-t5 : tie.Need-add-t5
-add-t5 c = search needs
+add-t6 : tie.Need-add-t6
+add-t6 c = search needs
 
 returns : tie.Need-returns
 returns c =
@@ -24,4 +24,4 @@ returns-2 : tie.Need-returns-2
 returns-2 c = search needs
 
 pub next-word-spec : {M : Type 1} → statement M
-next-word-spec = tie.close (tie.spec add-t4 add-t5 returns next-run-requires returns-2)
+next-word-spec = tie.close (tie.spec add-t4 add-t6 returns next-run-requires returns-2)

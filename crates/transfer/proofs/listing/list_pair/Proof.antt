@@ -8,7 +8,7 @@ use borrow.Author.Needs.{needs}
 use lib.ListN.{length}
 use Rattle.model.specs.Transfers.{Lists, fronted}
 use Rattle.transfer.specs.Answers.{listsOf, rising}
-use Rattle.transfer.proofs.ListingLaws.{room-yes, room-no, too-short, of-sender, of-receiver, all-listed}
+use Rattle.transfer.proofs.ListingLaws.{room-yes, room-no, too-short, of-either, all-listed}
 use Rattle.transfer.proofs.listing.list_pair.Statement.{statement}
 use Rattle.transfer.proofs.listing.list_pair.Tie as tie
 
@@ -80,14 +80,14 @@ unfolding lists
 write-addresses-requires c κs =
     let w : tie.After-write-along = c .before .before .before .before .before .before in
     let s = start (count w) in
-    of-sender _ (counted (count w)) (lists s) _ (wrote w) (s .pre) (room-1 w) _ (room-2 w)
+    search (of-either (s .args .p) (counted (count w)) (lists s) _ (wrote w) (s .pre) (room-1 w) (s .args .sent .now) (room-2 w))
 
 write-addresses-requires-2 : tie.Need-write-addresses-requires-2
 unfolding lists
 write-addresses-requires-2 c κs =
     let w : tie.After-write-along = c .before .before .before .before .before .before .before .before .before .before .before in
     let s = start (count w) in
-    of-receiver _ (counted (count w)) (lists s) _ (wrote w) (s .pre) (room-1 w) _ (room-3 w)
+    search (of-either (s .args .p) (counted (count w)) (lists s) _ (wrote w) (s .pre) (room-1 w) (s .args .received .now) (room-3 w))
 
 same-length : tie.Need-same-length
 same-length c = search needs

@@ -2,22 +2,15 @@
 use Prim.Native.Nat.{ℕ}
 use mathlib.Core.Path.{_≡_}
 use lib.IntN.{ℤ, pos, negsuc}
-use Rattle.model.specs.Sections.{countOf}
-use Rattle.section.specs.declared.count.Case.{Case}
-use Rattle.section.specs.declared.count.Case.the-variants.{Forward, Backward, Empty}
-use Rattle.section.specs.Strides.{tripletOf}
-use Rattle.section.specs.Cases.{caseOf}
+use Rattle.model.specs.declared.Case.{Case}
+use Rattle.model.specs.declared.Case.the-variants.{Forward, Backward, Empty}
+use Rattle.model.specs.Sections.{tripletOf, countOf}
+use Rattle.model.specs.Questions.{most, least}
+use Rattle.model.specs.Cases.{caseOf}
 
 -- l:h:s is case c, and by document 01's quotient it has n elements
 abbrev Counted : ℤ → ℤ → ℤ → Case → ℕ → Type 0
 Counted l h s c n = (caseOf (tripletOf l h s) ≡ c) × (countOf (tripletOf l h s) ≡ n)
-
--- the most and the least that pass question 6
-abbrev most : ℤ
-most = pos 2147483647
-
-abbrev least : ℤ
-least = negsuc 2147483646
 
 pub record CasesByHand : Type 0 where
   -- h is an element, or one short of the next, or l; the most elements; the longest strides

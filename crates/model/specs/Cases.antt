@@ -1,11 +1,13 @@
--- Document 02, A4: the count by the cases of the Fortran text, on natural numbers. Definitions only.
+-- Document 02, A4: the count by the cases of the Fortran text, on natural numbers.
 use Prim.Native.Nat.{ℕ, _+_, _/_, _≤_, _<_}
+use mathlib.Core.Path.{_≡_}
 use mathlib.Core.Bool.{_&&_, cond}
 use lib.IntN.{pos, natAbs, _-ℤ_}
 use lib.Signed.{leZ, ltZ}
 use Rattle.model.specs.declared.Triplet.{Triplet}
-use Rattle.section.specs.declared.count.Case.{Case}
-use Rattle.section.specs.declared.count.Case.the-variants.{Forward, Backward, Empty}
+use Rattle.model.specs.declared.Case.{Case}
+use Rattle.model.specs.declared.Case.the-variants.{Forward, Backward, Empty}
+use Rattle.model.specs.Sections.{countOf}
 
 -- "forward": s is above 0, and l not above h; "backward": s is below 0, and l not below h; "empty": any other.
 -- With the distance from l to h, and the size of s
@@ -26,3 +28,10 @@ abbrev pub Divides : Case → Type 0
 Divides (Forward d s) = (0 < s) × (d ≤ 4294967294)
 Divides (Backward d s) = (0 < s) × (d ≤ 4294967294)
 Divides Empty = Unit {0}
+
+-- the law, of a triplet that passes question 6
+pub record ByCases (x : Triplet) : Type 0 where
+  -- "these cases are 01's count for all l, h and s that pass 6"
+  pub counted : elementsIn (caseOf x) ≡ countOf x
+  -- "none with a negative dividend or divisor"
+  pub divides : Divides (caseOf x)

@@ -1,9 +1,9 @@
 -- The cases and counts that were found by hand are the definitions'.
 use mathlib.Core.Path.{refl}
 use Rattle.model.specs.Ownership.{nat}
 use Rattle.model.specs.Sections.{countOf}
-use Rattle.section.specs.Cases.{caseOf}
-use Rattle.section.specs.CasesByHand.{CasesByHand}
+use Rattle.model.specs.Cases.{caseOf}
+use Rattle.model.specs.CasesByHand.{CasesByHand}
 
 pub cases-hold : CasesByHand
 unfolding nat countOf caseOf

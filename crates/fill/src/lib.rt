@@ -2,6 +2,8 @@
 // blocks plan.rt finds the moves that drive the section's walk, and start.rt hands them to the loops
 // of the crate walk, which fill bytes; long.rt fills long lists by their periods, and runs.rt along a
 // run. ways.rt has either, found once for many fills. words.rt makes a fill of 32-bit words of fills of bytes.
+#![tactic(auto)]
+
 ghost use Rattle.std.specs.Prelude.{◌≡◌};
 ghost use Rattle.model.specs.Mappings.{section_with};
 ghost use Rattle.model.specs.Calls as calls;
@@ -22,7 +24,7 @@ pub mod ways;
 pub mod words;
 
 // What a fill reports, or the number of the question that was answered no.
-#[derive(Drop)]
+#[derive(Clone, Copy)]
 pub enum Filled {
     Done(Report),
     Refused(u32),

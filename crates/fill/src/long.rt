@@ -24,7 +24,7 @@ use walk::tables::fill_long_learning;
 const LONG: usize = 1000;
 
 // A period: its column, entries, positions and tries, and what it adds to an address.
-#[derive(Drop)]
+#[derive(Clone, Copy)]
 pub struct Period {
     pub column: u64,
     pub entries: usize,

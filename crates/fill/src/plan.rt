@@ -97,7 +97,7 @@ fn line_moves(w: Strided, r: Step, b: Step) -> Moves
 }
 
 // Moves that are constant, or that are learnt.
-#[derive(Drop)]
+#[derive(Clone, Copy)]
 pub enum Plan {
     Constant(Moves),
     Learnt(Moves),

@@ -14,7 +14,7 @@ use section::shares::{Extent, Share, owns_at, share_of};
 
 // A fill that passed its questions: its section, the processor and the extent of its share, the
 // place to start from and the quota.
-#[derive(Drop)]
+#[derive(Clone, Copy)]
 pub struct Start {
     pub section: Strided,
     pub processor: u64,
@@ -24,7 +24,7 @@ pub struct Start {
 }
 
 // An accepted fill, or the number of the question that was answered no.
-#[derive(Drop)]
+#[derive(Clone, Copy)]
 pub enum Ready {
     Go(Start),
     Refused(u32),

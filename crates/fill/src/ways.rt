@@ -11,7 +11,7 @@ use crate::runs::fill_run;
 use section::shares::{Extent, Share, Span};
 use walk::moves::Report;
 
-#[derive(Drop)]
+#[derive(Clone, Copy)]
 pub enum Way {
     Blocks(Plan),
     Run(Span),

@@ -8,7 +8,7 @@ use mapping::questions::{Mapped, ask_mapping, list_fits, within};
 use model::{Dealing, Grid, Layout, Mapping};
 
 // An accepted dimension: its layout, its first index, and how it is dealt.
-#[derive(Drop)]
+#[derive(Clone, Copy)]
 pub struct Dimension {
     pub layout: Layout,
     pub lower: i64,
@@ -16,7 +16,7 @@ pub struct Dimension {
 }
 
 // Or the number of the question that was answered no.
-#[derive(Drop)]
+#[derive(Clone, Copy)]
 enum Asked {
     By(Dimension),
     Refused(u32),
@@ -47,7 +47,7 @@ fn refusal_of(x: Asked) -> u32
     }
 }
 
-#[derive(Drop)]
+#[derive(Clone, Copy)]
 pub struct Dimensions {
     pub first: Dimension,
     pub second: Dimension,
@@ -55,7 +55,7 @@ pub struct Dimensions {
 }
 
 // An accepted grid, or the number of the question that was answered no.
-#[derive(Drop)]
+#[derive(Clone, Copy)]
 pub enum Gridded {
     By(Dimensions),
     Refused(u32),

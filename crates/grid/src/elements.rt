@@ -26,7 +26,7 @@ fn has_index(x: Dimension, index: i64) -> bool
 
 // Where an element is kept in one dimension: the coordinate of its owner, its address there, and how
 // many elements the owner has.
-#[derive(Drop)]
+#[derive(Clone, Copy)]
 struct Kept {
     processor: u64,
     address: Address,
@@ -116,14 +116,14 @@ pub fn owned_on(
 // ---- going back
 
 // The element at an address of a grid processor, or the refusal.
-#[derive(Drop)]
+#[derive(Clone, Copy)]
 pub enum Found {
     At(Declared, Declared, Declared),
     Refused(u32),
 }
 
 // What a coordinate has of its dimension.
-#[derive(Drop)]
+#[derive(Clone, Copy)]
 struct Held {
     processor: u64,
     part: Part,

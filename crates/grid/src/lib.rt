@@ -1,6 +1,8 @@
 // Arrays of rank 1 to 3 on a grid of processors: a mapping for each dimension, each with its own
 // processors. The questions are put in dimensions.rt and, about the rank and the products, in ranks.rt;
 // elements.rt has owners and local addresses. Here are the calls, which take whatever numbers and lists.
+#![tactic(auto)]
+
 ghost use Rattle.std.specs.Prelude.{◌≡◌};
 ghost use Rattle.model.specs.Calls.{ToldApart};
 ghost use Rattle.model.specs.Grids.{grid_with};

@@ -23,7 +23,7 @@ fn place_of(p: RowPlan, at: Stand) -> Position
 }
 
 // What a fill came to: where it stands, its entries and its tries.
-#[derive(Drop)]
+#[derive(Clone, Copy)]
 pub struct Ended {
     pub stand: Stand,
     pub entries: usize,

@@ -1,5 +1,7 @@
 // Fills of a lent list with a grid processor's addresses in a section of a grid. ready.rt puts the
 // questions; plans.rt finds what every row of the fill goes by, and filling.rt fills row by row.
+#![tactic(auto)]
+
 ghost use Rattle.model.specs.Grids.{grid_section_with};
 ghost use Rattle.grid_fill.specs.Ready.{Accepted, FillsFrom};
 ghost use Rattle.grid_fill.specs.Answers.{GridFilledBytes};

@@ -16,7 +16,7 @@ use model::{GridSection, LEAST_TRIES, MOST_TRIES, Position};
 
 // A fill that passed its questions: the grid processor's shares, how many elements its first coordinate
 // has and how many its second, the place to start from and the quota.
-#[derive(Drop)]
+#[derive(Clone, Copy)]
 pub struct Start {
     pub shares: Shares,
     pub elements: u64,
@@ -26,7 +26,7 @@ pub struct Start {
 }
 
 // An accepted fill, or the number of the question that was answered no.
-#[derive(Drop)]
+#[derive(Clone, Copy)]
 pub enum Ready {
     Go(Start),
     Refused(u32),

@@ -15,7 +15,7 @@ use walk::moves::Report;
 // The shares of a grid processor's coordinates with the way through each; how many elements of the
 // first and of the second dimension it has, which is how far apart its rows and its planes lie; its
 // first place in a row, and its first row in a plane.
-#[derive(Drop)]
+#[derive(Clone, Copy)]
 pub struct RowPlan {
     pub first: Share,
     pub second: Share,
@@ -30,7 +30,7 @@ pub struct RowPlan {
 }
 
 // Where a fill stands: its place in each dimension. With the third's count it is at the end.
-#[derive(Drop)]
+#[derive(Clone, Copy)]
 pub struct Stand {
     pub first: Position,
     pub second: Position,

@@ -29,7 +29,7 @@ pub(crate) fn addresses_from(s: Share, way: Way, t: Position, list: &mut [u8]) -
 }
 
 // The address of one element, and the place after it.
-#[derive(Drop)]
+#[derive(Clone, Copy)]
 pub struct Step {
     pub address: Address,
     pub next: Position,

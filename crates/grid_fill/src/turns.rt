@@ -15,7 +15,7 @@ use walk::moves::{self, Report};
 
 // A row that stands whole in the list, from the processor's first place to its end: from which entry
 // on, its entries, its tries, and how high its addresses lie. Without entries there is none.
-#[derive(Drop)]
+#[derive(Clone, Copy)]
 pub struct Whole {
     pub from: usize,
     pub entries: usize,
@@ -24,7 +24,7 @@ pub struct Whole {
 }
 
 // What a turn gives: where the fill then stands, a row that is known whole, and what it wrote and paid.
-#[derive(Drop)]
+#[derive(Clone, Copy)]
 pub struct Turn {
     pub stand: Stand,
     pub whole: Whole,

@@ -1,6 +1,8 @@
 // Sections of arrays of rank 1 to 3 on a grid of processors. The questions are put in lines.rt;
 // steps.rt has the count and the steps of each dimension, places.rt a grid processor's share of the
 // section and its first place. Here are the calls, which take whatever numbers and lists.
+#![tactic(auto)]
+
 ghost use Rattle.std.specs.Prelude.{◌≡◌};
 ghost use Rattle.model.specs.Calls.{ToldApart};
 ghost use Rattle.model.specs.Grids.{grid_section_with};

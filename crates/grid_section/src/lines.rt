@@ -10,13 +10,13 @@ use model::{Dealing, GridSection, Section};
 use section::questions::{Asked, Strided, ask_section};
 
 // An accepted section of one dimension, and how it is dealt.
-#[derive(Drop)]
+#[derive(Clone, Copy)]
 pub struct Line {
     pub section: Strided,
     pub dealing: Dealing,
 }
 
-#[derive(Drop)]
+#[derive(Clone, Copy)]
 pub struct Lines {
     pub first: Line,
     pub second: Line,
@@ -24,7 +24,7 @@ pub struct Lines {
 }
 
 // The sections of the dimensions, or the number of the question that was answered no.
-#[derive(Drop)]
+#[derive(Clone, Copy)]
 pub enum AskedLines {
     By(Lines),
     Refused(u32),

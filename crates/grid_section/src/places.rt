@@ -18,7 +18,7 @@ use section::place::Placed;
 use section::shares::{Share, first_of, owns_at, share_of};
 
 // The shares of a grid processor's coordinates.
-#[derive(Drop)]
+#[derive(Clone, Copy)]
 pub struct Shares {
     pub first: Share,
     pub second: Share,

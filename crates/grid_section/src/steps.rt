@@ -11,7 +11,7 @@ use section::report::{SectionSteps, report_of};
 use section::steps::steps_by;
 
 // The count of the section and each dimension's report, or the refusal.
-#[derive(Drop)]
+#[derive(Clone, Copy)]
 pub enum GridSteps {
     By(u64, SectionSteps, SectionSteps, SectionSteps),
     Refused(u32),

@@ -10,7 +10,7 @@ use model::{Dealing, Section};
 use transfer::listing::Transferred;
 
 #[repr(C)]
-#[derive(Drop)]
+#[derive(Clone, Copy)]
 pub struct HpfTransferred {
     pub refusal: u32,
     pub entries: u32,

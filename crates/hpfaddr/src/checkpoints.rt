@@ -13,7 +13,7 @@ use model::{Dealing, Mapping};
 use storage::Copied;
 
 #[repr(C)]
-#[derive(Drop)]
+#[derive(Clone, Copy)]
 pub struct HpfCopied {
     pub refusal: u32,
     pub needed: u32,

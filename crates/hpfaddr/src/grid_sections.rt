@@ -15,7 +15,7 @@ use grid_section::steps::GridSteps;
 use model::{GridSection, Section};
 
 #[repr(C)]
-#[derive(Drop)]
+#[derive(Clone, Copy)]
 pub struct HpfTriplet {
     pub lower: i64,
     pub upper: i64,
@@ -23,7 +23,7 @@ pub struct HpfTriplet {
 }
 
 #[repr(C)]
-#[derive(Drop)]
+#[derive(Clone, Copy)]
 pub struct HpfGridSection {
     pub grid: HpfGrid,
     pub triplets: [HpfTriplet; 3],
@@ -56,7 +56,7 @@ fn grid_section_of(x: HpfGridSection) -> GridSection
 }
 
 #[repr(C)]
-#[derive(Drop)]
+#[derive(Clone, Copy)]
 pub struct HpfGridSteps {
     pub refusal: u64,
     pub count: u64,

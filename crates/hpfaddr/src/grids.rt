@@ -13,7 +13,7 @@ use grid::elements::Found;
 use model::{Grid, Mapping};
 
 #[repr(C)]
-#[derive(Drop)]
+#[derive(Clone, Copy)]
 pub struct HpfDimension {
     pub cells: i64,
     pub processors: i64,
@@ -27,7 +27,7 @@ pub struct HpfDimension {
 }
 
 #[repr(C)]
-#[derive(Drop)]
+#[derive(Clone, Copy)]
 pub struct HpfGrid {
     pub rank: i64,
     pub dimensions: [HpfDimension; 3],
@@ -90,7 +90,7 @@ pub extern "C" fn hpf_grid_ownership(
 }
 
 #[repr(C)]
-#[derive(Drop)]
+#[derive(Clone, Copy)]
 pub struct HpfGridFound {
     pub refusal: u32,
     pub first: i32,

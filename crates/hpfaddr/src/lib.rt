@@ -4,6 +4,8 @@
 // checkpoints, each for a cyclic template; in gen_block.rt and gen_block_sections.rt the same for
 // GEN_BLOCK; in grids.rt and grid_sections.rt those of grids of processors. include/ and fortran/
 // declare them.
+#![tactic(auto)]
+
 ghost use Rattle.std.specs.Prelude.{◌≡◌};
 ghost use Rattle.model.specs.Mappings.{cyclic, mapping_with};
 ghost use Rattle.model.specs.Calls.{ownership, going_back, local_count};
@@ -26,7 +28,7 @@ mod parameters;
 pub mod sections;
 
 #[repr(C)]
-#[derive(Drop)]
+#[derive(Clone, Copy)]
 pub struct HpfOwned {
     pub refusal: u32,
     pub processor: u32,
@@ -90,7 +92,7 @@ pub extern "C" fn hpf_ownership(
 }
 
 #[repr(C)]
-#[derive(Drop)]
+#[derive(Clone, Copy)]
 pub struct HpfFound {
     pub refusal: u32,
     pub index: i32,
@@ -145,7 +147,7 @@ pub extern "C" fn hpf_going_back(
 }
 
 #[repr(C)]
-#[derive(Drop)]
+#[derive(Clone, Copy)]
 pub struct HpfCounted {
     pub refusal: u32,
     pub elements: u32,

@@ -14,7 +14,7 @@ use section::place::Placed;
 use section::report::{Reported, SectionSteps};
 
 #[repr(C)]
-#[derive(Drop)]
+#[derive(Clone, Copy)]
 pub struct HpfSteps {
     pub refusal: u64,
     pub count: u64,
@@ -121,7 +121,7 @@ pub extern "C" fn hpf_section_steps(
 }
 
 #[repr(C)]
-#[derive(Drop)]
+#[derive(Clone, Copy)]
 pub struct HpfPlaced {
     pub refusal: u32,
     pub place: u32,
@@ -186,7 +186,7 @@ pub extern "C" fn hpf_first_place(
 }
 
 #[repr(C)]
-#[derive(Drop)]
+#[derive(Clone, Copy)]
 pub struct HpfFilled {
     pub refusal: u32,
     pub entries: u32,

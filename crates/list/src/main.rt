@@ -1,6 +1,7 @@
 // The program `list`: reads a sheet from standard input, and writes every processor's list of
 // addresses for each of its sections, or the refusal. The contracts of the crate print say which
 // bytes are to be written. That they are, and what is read, no contract can say: it is tested.
+#![tactic(auto)]
 
 // What is read of the input: a byte more than the longest sheet has.
 const SHEET: usize = 8842;

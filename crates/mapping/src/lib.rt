@@ -2,6 +2,8 @@
 // blocks or in runs. The questions about a mapping are put in questions.rt and, about a list of
 // sizes, in runs.rt; the arithmetic of an accepted one stands in dealing.rt, and in parts.rt what
 // goes by the dealing. Here are the calls, which take whatever numbers and list.
+#![tactic(auto)]
+
 pub mod dealing;
 pub mod parts;
 pub mod questions;
@@ -18,7 +20,7 @@ use model::{Address, Dealing, Declared, Index, Layout, Mapping};
 use questions::Mapped;
 
 // Processor and local address of an element, or the refusal.
-#[derive(Drop)]
+#[derive(Clone, Copy)]
 pub enum Owned {
     At { processor: u64, address: Address },
     Refused(u32),
@@ -58,7 +60,7 @@ pub fn ownership(m: Mapping, sizes: &[u8], index: i64) -> Owned
 }
 
 // The element at an address of a processor, or the refusal.
-#[derive(Drop)]
+#[derive(Clone, Copy)]
 pub enum Found {
     At(Declared),
     Refused(u32),
@@ -101,7 +103,7 @@ pub fn going_back(m: Mapping, sizes: &[u8], processor: i64, address: i64) -> Fou
 }
 
 // How many elements a processor holds, or the refusal.
-#[derive(Drop)]
+#[derive(Clone, Copy)]
 pub enum Counted {
     Elements(u64),
     Refused(u32),

@@ -12,7 +12,7 @@ use crate::runs::{Run, owner_in, run_of};
 use model::{Address, Cell, Dealing, Index, Layout};
 use numbers::multiples_below;
 
-#[derive(Drop)]
+#[derive(Clone, Copy)]
 pub enum Part {
     Blocks,
     Run(Run),
@@ -82,7 +82,7 @@ pub fn element_in(l: Layout, q: u64, part: Part, x: Address) -> Index
 }
 
 // Where an element is kept.
-#[derive(Drop)]
+#[derive(Clone, Copy)]
 pub struct Home {
     pub processor: u64,
     pub address: Address,

@@ -184,7 +184,7 @@ fn first_refusal(
 
 // A mapping's layout and its array's lower bound, or the number of the question that was
 // answered no.
-#[derive(Drop)]
+#[derive(Clone, Copy)]
 pub enum Mapped {
     By(Layout, i64),
     Refused(u32),

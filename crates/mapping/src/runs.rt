@@ -13,7 +13,7 @@ use numbers::words::word_at;
 const MOST_SIZE: u32 = MOST as u32;
 
 // The cells of a processor's run: those from start to end - 1.
-#[derive(Drop)]
+#[derive(Clone, Copy)]
 pub struct Run {
     pub start: Cell,
     pub end: Cell,
@@ -80,7 +80,7 @@ pub(crate) fn run_of(sizes: &[u8], q: usize) -> Run
 }
 
 // A processor, and where its run starts.
-#[derive(Drop)]
+#[derive(Clone, Copy)]
 pub struct Owner {
     pub processor: u64,
     pub start: Cell,

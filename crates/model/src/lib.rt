@@ -1,6 +1,7 @@
 // What a reader must believe: the terms of document 01 as types here, and as definitions
 // in specs/. The demands are stated in specs/ too; what follows from the definitions is
 // proved in proofs/. Nothing here runs.
+#![tactic(auto)]
 
 // Limits that several questions and loops name: the size of a declared number, of a count and of a
 // list's entry; the processors; the tries that a fill asks for before it goes on, and the largest
@@ -15,26 +16,26 @@ pub const MOST_TRIES: u64 = 1000000;
 
 // An element's index, a cell's number, a local address and a section position, each
 // counted from 0: four types, so that none is taken for another.
-#[derive(Drop)]
+#[derive(Clone, Copy)]
 pub struct Index(pub u64);
 
-#[derive(Drop)]
+#[derive(Clone, Copy)]
 pub struct Cell(pub u64);
 
-#[derive(Drop)]
+#[derive(Clone, Copy)]
 pub struct Address(pub u64);
 
-#[derive(Drop)]
+#[derive(Clone, Copy)]
 pub struct Position(pub u64);
 
 // An element's index as the program declares it, from the array's lower bound on.
-#[derive(Drop)]
+#[derive(Clone, Copy)]
 pub struct Declared(pub i64);
 
 // How a template's cells are dealt to processors: in turn, in blocks of k; or GEN_BLOCK, each
 // processor one run of cells. The list of the runs' sizes stands beside a mapping, as bytes: an
 // enum holds no list.
-#[derive(Drop)]
+#[derive(Clone, Copy)]
 pub enum Dealing {
     Cyclic(i64),
     GenBlock,
@@ -44,7 +45,7 @@ pub enum Dealing {
 // bounds that the program declares, the template's (Lt) and the array's (La). The two are not
 // neighbours, as they are among a C function's arguments: copied as one word of 16 bytes they
 // would make the call wait for the stores of each.
-#[derive(Drop)]
+#[derive(Clone, Copy)]
 pub struct Mapping {
     pub cells: i64,
     pub processors: i64,
@@ -59,7 +60,7 @@ pub struct Mapping {
 // A mapping that passed its questions, as natural numbers: elements count from 0, and the
 // offset is the first one's cell. A GEN_BLOCK template has no block: 1 stands in its place, and
 // nothing looks at it.
-#[derive(Drop)]
+#[derive(Clone, Copy)]
 pub struct Layout {
     pub cells: u64,
     pub processors: u64,
@@ -70,7 +71,7 @@ pub struct Layout {
 }
 
 // A triplet l:h:s as a caller passes it.
-#[derive(Drop)]
+#[derive(Clone, Copy)]
 pub struct Triplet {
     pub lower: i64,
     pub upper: i64,
@@ -79,7 +80,7 @@ pub struct Triplet {
 
 // How the Fortran text reads l:h:s: forward or backward over the distance from l to h, by the
 // size of s; or empty, where h lies the other way.
-#[derive(Drop)]
+#[derive(Clone, Copy)]
 pub enum Case {
     Forward { distance: u64, stride: u64 },
     Backward { distance: u64, stride: u64 },
@@ -87,7 +88,7 @@ pub enum Case {
 }
 
 // A section of an array.
-#[derive(Drop)]
+#[derive(Clone, Copy)]
 pub struct Section {
     pub mapping: Mapping,
     pub triplet: Triplet,
@@ -95,7 +96,7 @@ pub struct Section {
 
 // An array of rank 1 to 3 on a grid of processors: a mapping for each dimension, of which those
 // past the rank are not looked at.
-#[derive(Drop)]
+#[derive(Clone, Copy)]
 pub struct Grid {
     pub rank: i64,
     pub first: Mapping,
@@ -104,7 +105,7 @@ pub struct Grid {
 }
 
 // A section of it: one of each dimension.
-#[derive(Drop)]
+#[derive(Clone, Copy)]
 pub struct GridSection {
     pub rank: i64,
     pub first: Section,
@@ -114,7 +115,7 @@ pub struct GridSection {
 
 // A step: its cells, its courses, and by how many columns it moves. The return step moves
 // as many columns back.
-#[derive(Drop)]
+#[derive(Clone, Copy)]
 pub struct Step {
     pub cells: u64,
     pub courses: u64,
@@ -122,7 +123,7 @@ pub struct Step {
 }
 
 // The steps of a section: the processor step and the return step, or one step, or none.
-#[derive(Drop)]
+#[derive(Clone, Copy)]
 pub enum Steps {
     NoStep,
     OneStep(Step),

@@ -1,6 +1,8 @@
 // Arithmetic that knows nothing of arrays: three recursions in the manner of Euclid, each of
 // which takes a number of calls that is logarithmic in its modulus; multiples below a number;
 // and in words.rt words of bytes. Each equals a plain definition of specs/.
+#![tactic(auto)]
+
 ghost use Rattle.std.specs.Prelude.{◌≡◌, ◌+◌, ◌*◌, ◌/◌, ◌<◌, ◌^◌};
 ghost use Rattle.numbers.specs.Gcd.{gcd};
 ghost use Rattle.numbers.specs.FloorSum.{floor_sum, tri, SumFits};
@@ -40,7 +42,7 @@ pub fn floor_sum(n: u64, m: u64, a: u64, b: u64) -> u64
 }
 
 // What a search finds.
-#[derive(Drop)]
+#[derive(Clone, Copy)]
 pub enum Hit {
     At(u64),
     Nothing,

@@ -14,21 +14,21 @@ use section::questions::Strided;
 use section::shares::Extent;
 
 // An accepted section, of a cyclic template: as the sheet has it, and on natural numbers.
-#[derive(Drop)]
+#[derive(Clone, Copy)]
 pub struct Listed {
     pub section: Section,
     pub strided: Strided,
 }
 
 // What is left of a processor's list: the place of the next element, and how many there are.
-#[derive(Drop)]
+#[derive(Clone, Copy)]
 pub struct Rest {
     pub place: Position,
     pub left: u64,
 }
 
 // What a fill gave: entries, tries, and what is left after it.
-#[derive(Drop)]
+#[derive(Clone, Copy)]
 pub struct Gone {
     pub entries: usize,
     pub tries: u64,

@@ -1,6 +1,8 @@
 // The print of the program `list`, put piece by piece into bytes that the caller lends. Behind the
 // two functions: numbers in base ten (text.rt), the text of each line (lines.rt), a processor's
 // list by fills (fills.rt), a section's print part by part (parts.rt), and a sheet's (pieces.rt).
+#![tactic(auto)]
+
 ghost use Rattle.std.specs.Prelude.{ℕ, ◌+◌, ◌≤◌, ◌≡◌, List, [], ◌++◌, length, take};
 ghost use Rattle.print.specs.Turns.{Stands, Room};
 ghost use Rattle.print.specs.Giving.{Received, Gives, Waits, to_give};

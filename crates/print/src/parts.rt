@@ -14,7 +14,7 @@ use model::Section;
 use section::questions::{Asked, ask_section};
 
 // What comes next: a processor's line, or the rest of its addresses; or nothing.
-#[derive(Drop)]
+#[derive(Clone, Copy)]
 pub enum Turn {
     Line(Listed, u64),
     Addresses(Listed, u64, Rest),
@@ -22,7 +22,7 @@ pub enum Turn {
 }
 
 // A part: how many bytes it has, and what comes after it.
-#[derive(Drop)]
+#[derive(Clone, Copy)]
 pub struct Part {
     pub bytes: usize,
     pub next: Turn,

@@ -8,14 +8,14 @@ use crate::parts::{Turn, first_part, next_part};
 use sheet::{Answer, Content, read_sheet, section_of};
 
 // What comes next: the rest of a section's print, and the sections from one on.
-#[derive(Drop)]
+#[derive(Clone, Copy)]
 pub struct Left {
     pub turn: Turn,
     pub section: u64,
 }
 
 // A piece: how many bytes it has, and what comes after it.
-#[derive(Drop)]
+#[derive(Clone, Copy)]
 pub struct Piece {
     pub bytes: usize,
     pub next: Left,
@@ -47,7 +47,7 @@ fn section_piece(content: Content, j: u64, out: &mut [u8]) -> Piece
 }
 
 // The first piece of a sheet, and what the sheet holds: nothing, where it is refused.
-#[derive(Drop)]
+#[derive(Clone, Copy)]
 pub struct Opened {
     pub content: Content,
     pub piece: Piece,

@@ -2,6 +2,8 @@
 // accepted, their steps, and each processor's first place. The questions are put in questions.rt,
 // shares.rt has what goes by the dealing, and the arithmetic of an accepted section stands in the
 // other modules.
+#![tactic(auto)]
+
 ghost use Rattle.std.specs.Prelude.{◌≡◌};
 ghost use Rattle.model.specs.Mappings.{section_with};
 ghost use Rattle.model.specs.Calls.{section_steps, first_place_at, ToldApart};

@@ -65,7 +65,7 @@ pub fn place_of(w: Strided, q: u64) -> Position
 }
 
 // A processor's first place, or the number of the question that was answered no.
-#[derive(Drop)]
+#[derive(Clone, Copy)]
 pub enum Placed {
     At(Position),
     Refused(u32),

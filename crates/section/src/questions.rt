@@ -51,7 +51,7 @@ fn ends_in(n: u64, lower: i64, l: Declared, s: i64, c: u64) -> bool
 
 // A section that passed its questions: its count, the index from 0 of its first element, the
 // size of s, and whether the section goes up.
-#[derive(Drop)]
+#[derive(Clone, Copy)]
 pub struct Strided {
     pub layout: Layout,
     pub count: u64,
@@ -61,7 +61,7 @@ pub struct Strided {
 }
 
 // An accepted section, or the number of the question that was answered no.
-#[derive(Drop)]
+#[derive(Clone, Copy)]
 pub enum Asked {
     By(Strided),
     Refused(u32),

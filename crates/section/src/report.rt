@@ -6,7 +6,7 @@ ghost use Rattle.section.specs.Answers.{step_as, steps_as, steps_refusals, repor
 use model::{Step, Steps};
 
 // A step: its cells, its courses, and its column move, negative where it goes back.
-#[derive(Drop)]
+#[derive(Clone, Copy)]
 pub struct Reported {
     pub cells: u64,
     pub courses: u64,
@@ -15,7 +15,7 @@ pub struct Reported {
 
 // The count of a section with its steps, the processor step before the return step; or the
 // number of the question that was answered no.
-#[derive(Drop)]
+#[derive(Clone, Copy)]
 pub enum SectionSteps {
     NoStep(u64),
     OneStep(u64, Reported),

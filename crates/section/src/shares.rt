@@ -24,20 +24,20 @@ use numbers::multiples_below;
 
 // The positions of a run, those from low to high - 1, and the index of the processor's first element
 // of the array.
-#[derive(Drop)]
+#[derive(Clone, Copy)]
 pub struct Span {
     pub low: Position,
     pub high: Position,
     pub base: Index,
 }
 
-#[derive(Drop)]
+#[derive(Clone, Copy)]
 pub enum Extent {
     Blocks,
     Run(Span),
 }
 
-#[derive(Drop)]
+#[derive(Clone, Copy)]
 pub struct Share {
     pub section: Strided,
     pub processor: u64,

@@ -15,7 +15,7 @@ use numbers::gcd;
 
 // A multiple of the spread: how often it is taken, its courses, and how many cells it has
 // above them, or lacks to them.
-#[derive(Drop)]
+#[derive(Clone, Copy)]
 pub struct Side {
     pub count: u64,
     pub courses: u64,
@@ -47,7 +47,7 @@ fn fall(x: Side, y: Side, k: u64) -> Side
 }
 
 // The processor step and the return step.
-#[derive(Drop)]
+#[derive(Clone, Copy)]
 pub struct Pair {
     pub processor: Step,
     pub back: Step,

@@ -1,6 +1,8 @@
 // The strict reader of a sheet: the bytes' content, or refusal 14 with its place, and what a
 // section of the sheet stands for. Numbers are read in number.rt, parts in part.rt. The place
 // is the first byte that no well-formed sheet has after the bytes before it.
+#![tactic(auto)]
+
 ghost use Rattle.std.specs.Prelude.{◌≡◌, [], length, get_or};
 ghost use Rattle.model.specs.Mappings.{section_with};
 ghost use Rattle.sheet.specs.Contents.{read_sheet, no_line, section_in};
@@ -15,7 +17,7 @@ mod part;
 
 // A line: the name that it begins with, 0 on a template's line, which has none; and its numbers,
 // five on an array's line and three on the others, where the last two are 0.
-#[derive(Drop)]
+#[derive(Clone, Copy)]
 pub struct Line {
     pub name: u64,
     pub first: i64,
@@ -26,7 +28,7 @@ pub struct Line {
 }
 
 // The lines of a part stand in its first rows; the other rows are 0.
-#[derive(Drop)]
+#[derive(Clone, Copy)]
 pub struct Lines {
     pub count: usize,
     pub rows: [Line; 64],
@@ -47,7 +49,7 @@ const NO_LINES: Lines = Lines {
 };
 
 // What a sheet holds.
-#[derive(Drop)]
+#[derive(Clone, Copy)]
 pub struct Content {
     pub templates: Lines,
     pub arrays: Lines,
@@ -55,14 +57,14 @@ pub struct Content {
 }
 
 // The answer to question 14: yes, or no with the place of the refusal.
-#[derive(Drop)]
+#[derive(Clone, Copy)]
 pub enum Answer {
     Formed,
     Malformed(usize),
 }
 
 // The answer, and the content, which is all 0 where the sheet is refused.
-#[derive(Drop)]
+#[derive(Clone, Copy)]
 pub struct SheetRead {
     pub answer: Answer,
     pub content: Content,

@@ -4,21 +4,21 @@ ghost use Rattle.sheet.specs.Numbers.{digits, natural, number};
 ghost use Rattle.sheet.specs.Answers.{Answers, place_of, natural_found, number_found};
 
 // A byte place on the sheet.
-#[derive(Drop)]
+#[derive(Clone, Copy)]
 pub struct Cursor {
     pub at: usize,
 }
 
 // A number with no sign and the cursor after the byte that ends it, or the place of the first
 // byte that cannot stand there.
-#[derive(Drop)]
+#[derive(Clone, Copy)]
 pub enum Natural {
     Value(u64, Cursor),
     Bad(usize),
 }
 
 // The same of a number with an optional minus.
-#[derive(Drop)]
+#[derive(Clone, Copy)]
 pub enum Number {
     Value(i64, Cursor),
     Bad(usize),

@@ -9,7 +9,7 @@ use crate::number::{Cursor, Natural, Number};
 use crate::{Line, Lines, NO_LINE, NO_LINES, number};
 
 // Which part, and for arrays and sections how many templates or arrays there are to name.
-#[derive(Drop)]
+#[derive(Clone, Copy)]
 pub enum Part {
     Templates,
     Arrays(u64),
@@ -17,21 +17,21 @@ pub enum Part {
 }
 
 // A line and the cursor after it, or the place of a refusal.
-#[derive(Drop)]
+#[derive(Clone, Copy)]
 pub enum LineRead {
     Value(Line, Cursor),
     Bad(usize),
 }
 
 // The cursor after a part, or the place of a refusal.
-#[derive(Drop)]
+#[derive(Clone, Copy)]
 pub enum Ended {
     At(Cursor),
     Bad(usize),
 }
 
 // The lines are all 0 where the part is refused.
-#[derive(Drop)]
+#[derive(Clone, Copy)]
 pub struct PartRead {
     pub ended: Ended,
     pub lines: Lines,

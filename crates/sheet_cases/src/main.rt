@@ -1,6 +1,8 @@
 // A program that shows the reader at work: it reads sheets with one mistake each and prints the
 // refusal and its place; then reads document 01's sheet from standard input and prints its
 // counts, and 1 if its section is the right one.
+#![tactic(auto)]
+
 use model::{Dealing, Section};
 use sheet::Answer;
 

@@ -3,6 +3,8 @@
 // one block, row.rt the pointers at which each processor's words go on, and laps.rt goes through the
 // runs; words.rt has copies of words, which is all that a GEN_BLOCK template takes. Here are the
 // calls, which take whatever numbers and lists.
+#![tactic(auto)]
+
 ghost use Rattle.std.specs.Prelude.{◌≡◌};
 ghost use Rattle.model.specs.Mappings.{mapping_with};
 ghost use Rattle.model.specs.Calls.{ToldApart};
@@ -21,7 +23,7 @@ mod words;
 
 // All words were copied; or a list is too short for so many; or the number of another question that
 // was answered no.
-#[derive(Drop)]
+#[derive(Clone, Copy)]
 pub enum Copied {
     Whole,
     Needs(u64),

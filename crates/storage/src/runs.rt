@@ -11,7 +11,7 @@ use model::{Cell, Index, Layout};
 // A run that begins before column `limit` has `many` elements; the next begins `rise` columns
 // higher, on the processor `many_on` after this one. From `limit` on a run has `few`; the next
 // begins `limit` columns lower, `few_on` processors after.
-#[derive(Drop)]
+#[derive(Clone, Copy)]
 pub struct Pace {
     pub limit: usize,
     pub rise: usize,
@@ -24,7 +24,7 @@ pub struct Pace {
 
 // The run of `length` elements from an index on, the column at which its block's elements begin, and
 // its owner; past the last processor the owners begin anew.
-#[derive(Drop)]
+#[derive(Clone, Copy)]
 pub struct Run {
     pub index: Index,
     pub length: usize,

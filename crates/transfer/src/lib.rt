@@ -1,6 +1,8 @@
 // Transfers of an array assignment: the section positions that a sender passes to a receiver, each
 // with both addresses. questions.rt puts the questions, walk.rt walks along the sender's or the
 // receiver's elements, whichever are fewer, and listing.rt writes what is found.
+#![tactic(auto)]
+
 ghost use Rattle.std.specs.Prelude.{◌≡◌};
 ghost use Rattle.model.specs.Mappings.{section_with};
 ghost use Rattle.model.specs.Calls.{ToldApart};

@@ -13,7 +13,7 @@ use section::shares::{Share, address_of};
 
 // How many entries the pair has; or, where a list is too short, how many are needed; or the
 // number of another question that was answered no.
-#[derive(Drop)]
+#[derive(Clone, Copy)]
 pub enum Transferred {
     Entries(usize),
     Needs(usize),

@@ -10,14 +10,14 @@ use section::questions::{Asked, Strided, ask_section, is_processor};
 use section::shares::{Share, share_of};
 
 // The sender's share of the right section, and the receiver's of the left.
-#[derive(Drop)]
+#[derive(Clone, Copy)]
 pub struct Pair {
     pub sender: Share,
     pub receiver: Share,
 }
 
 // A pair, or the number of the question that was answered no.
-#[derive(Drop)]
+#[derive(Clone, Copy)]
 pub enum Paired {
     By(Pair),
     Refused(u32),

@@ -11,7 +11,7 @@ use section::shares::{Share, elements_in, first_of, next_of, owns_at};
 use section::steps::steps_of;
 
 // The share that is walked, by its steps from its first place, and the one that is tested.
-#[derive(Drop)]
+#[derive(Clone, Copy)]
 pub struct Walk {
     pub walked: Share,
     pub tested: Share,

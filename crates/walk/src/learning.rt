@@ -8,7 +8,7 @@ use model::{Address, Index, Layout, Position};
 
 // The elements at the places of a walk: place t has element first + t * stride, or
 // first - t * stride.
-#[derive(Drop)]
+#[derive(Clone, Copy)]
 pub struct Elements {
     pub layout: Layout,
     pub first: Index,
@@ -18,7 +18,7 @@ pub struct Elements {
 
 // A fill by moves that are learnt: along which elements, by which moves, to which count, with
 // how many tries.
-#[derive(Drop)]
+#[derive(Clone, Copy)]
 pub struct Task {
     pub elements: Elements,
     pub moves: Moves,

@@ -2,6 +2,8 @@
 // of sections: a turn only adds and compares, by moves that are constant (bytes.rt) or that are
 // learnt when they are first made (columns.rt and classes.rt; tables.rt chooses). What repeats with
 // the column is in periods.rt, and copies.rt has entries that repeat.
+#![tactic(auto)]
+
 pub mod bytes;
 mod classes;
 mod columns;

@@ -11,7 +11,7 @@ use model::{Address, LEAST_TRIES, Position};
 // processor step goes up and the return step down; how many positions each goes on; and
 // what is added to the address for the one, for the other and for both. A walk of one step
 // has up 0, so that its step always fits.
-#[derive(Drop)]
+#[derive(Clone, Copy)]
 pub struct Moves {
     pub block: u64,
     pub up: u64,
@@ -24,7 +24,7 @@ pub struct Moves {
 }
 
 // Where a fill stands: column, address and place of the next element, and the tries paid.
-#[derive(Drop)]
+#[derive(Clone, Copy)]
 pub struct State {
     pub column: u64,
     pub address: Address,
@@ -33,14 +33,14 @@ pub struct State {
 }
 
 // What a burst made: the state that it came to, and its turns.
-#[derive(Drop)]
+#[derive(Clone, Copy)]
 pub struct Made {
     pub state: State,
     pub turns: usize,
 }
 
 // What a fill returns.
-#[derive(Drop)]
+#[derive(Clone, Copy)]
 pub struct Report {
     pub entries: usize,
     pub tries: u64,

@@ -9,7 +9,7 @@ use crate::learning::{self, Elements};
 use crate::moves::Moves;
 
 // Columns that follow one another: the first, and the end.
-#[derive(Drop)]
+#[derive(Clone, Copy)]
 pub struct Span {
     pub from: u64,
     pub end: u64,

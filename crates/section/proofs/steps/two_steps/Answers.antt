@@ -1,0 +1,60 @@
+-- `two_steps` meets its contract. The invariant: no smaller multiple comes nearer than the two. The measure: what is left of both.
+use Prim.Native.Nat.{◌+◌, ◌-◌, ◌<◌}
+use mathlib.Core.Logic.{inl, inr, ⊎_elim}
+use native.Mathlib.Nat.{mod-lt}
+use native.Mathlib.Omega.{arith}
+use borrow.Author.Tests.{ltb-true, ltb-false}
+use Rattle.model.proofs.Turns.{start}
+use Rattle.section.proofs.FallLaws.{Sides, cells-a, cells-b, may-a, may-b, keep-a, keep-b, processor-is, return-is}
+use Rattle.section.proofs.steps.two_steps.Goals as goal
+
+pub overflow_sub-a : goal.overflow_sub-a
+overflow_sub-a c = omega arith
+
+pub nonzero_div-a : goal.nonzero_div-a
+nonzero_div-a c = omega arith
+
+pub overflow_sub-a-2 : goal.overflow_sub-a-2
+overflow_sub-a-2 c = omega arith
+
+pub nonzero_rem-a : goal.nonzero_rem-a
+nonzero_rem-a c = omega arith
+
+pub overflow_add-a : goal.overflow_add-a
+overflow_add-a c = let pos : 0 < c.args.m = omega arith in omega (arith, mod-lt (c.args.s - 1) pos)
+
+pub loop-a-init : goal.loop-a-init
+loop-a-init c = start c.args.m c.args.k c.args.s (omega arith) (omega arith)
+
+pub overflow_mul-result : goal.overflow_mul-result
+overflow_mul-result c = omega (arith, cells-a c.requires c.loop-a.invariant)
+
+pub overflow_mul-result-then-b-k : goal.overflow_mul-result-then-b-k
+overflow_mul-result-then-b-k c = omega (arith, cells-b c.requires c.loop-a.invariant)
+
+pub fall-b-requires : goal.fall-b-requires
+fall-b-requires c =
+    may-b c.requires c.loop-a.invariant c.if-a-b.true
+    (⊎_elim (λ w. inr (omega (arith, ltb-false))) (λ w. inl (omega arith)) c.else-a-k.branch)
+
+pub loop-a-smaller-then-a-b : goal.loop-a-smaller-then-a-b
+loop-a-smaller-then-a-b c = omega (arith, c.fall-b.ensures.less)
+
+pub loop-a-preserved-then-a-b : goal.loop-a-preserved-then-a-b
+loop-a-preserved-then-a-b c = keep-b c.requires c.loop-a.invariant c.fall-b.result c.fall-b.ensures
+
+pub fall-a-requires : goal.fall-a-requires
+fall-a-requires c =
+    may-a c.requires c.loop-a.invariant c.if-a-b.false
+    (⊎_elim (λ w. inr (omega (arith, ltb-false))) (λ w. inl (omega arith)) c.else-a-k.branch)
+
+pub loop-a-smaller : goal.loop-a-smaller
+loop-a-smaller c = omega (arith, c.fall-a.ensures.less)
+
+pub loop-a-preserved : goal.loop-a-preserved
+loop-a-preserved c = keep-a c.requires c.loop-a.invariant c.fall-a.result c.fall-a.ensures
+
+pub returns : goal.returns
+returns c =
+    let fb = ltb-true _ _ c.if-b-k.true in
+    (processor-is c.requires c.loop-a.invariant c.else-a-k.true fb, return-is c.requires c.loop-a.invariant c.else-a-k.true fb)

@@ -22,13 +22,12 @@ stand_at-at-requires c =
 
 pub fill_rows-requires : goal.fill_rows-requires
 fill_rows-requires c =
-    let s = start c in
     record {
-      source = s.pre.source;
+      source = c.requires.source;
       planned = planned (goal.at.fill_rows-requires c).After-plan_of-plan;
-      stands = (c.stand_at-at.ensures s.pre.source (planned (goal.at.fill_rows-requires c).After-plan_of-plan)).0;
-      least = s.pre.least;
-      most = s.pre.most;
+      stands = (c.stand_at-at.ensures c.requires.source (planned (goal.at.fill_rows-requires c).After-plan_of-plan)).0;
+      least = c.requires.least;
+      most = c.requires.most;
     }
 
 pub returns : goal.returns

@@ -8,25 +8,19 @@ use Rattle.grid_fill.proofs.fill_into_bytes.Goals as goal
 use Rattle.grid_fill.proofs.fill_into_bytes.Goals.{After-ask_fill}
 
 -- the answer, of the parameters
-section : (c : After-ask_fill) → GridSection
+abbrev section : (c : After-ask_fill) → GridSection
 section c =
     grid_section_with c.args.x c.args.b.now c.args.c.now c.args.d.now
 
-answered : (c : After-ask_fill) → c.ask_fill.result ≡ ready_of section c.args.processor c.args.place c.args.quota
+answered : (c : After-ask_fill) → c.ask_fill.result ≡ ready_of (section c) c.args.processor c.args.place c.args.quota
 answered c =
-    of-parameters section c.args.processor c.args.place c.args.quota c.ranges.processor c.ranges.place c.ranges.quota c.ask_fill.ensures
+    of-parameters (section c) c.args.processor c.args.place c.args.quota c.ranges.processor c.ranges.place c.ranges.quota c.ask_fill.ensures
 
 pub fill_from-requires : goal.fill_from-requires
-fill_from-requires c =
-    let s = start c in
-    taken (section (goal.at.fill_from-requires c).After-ask_fill) s.args.processor s.args.place s.args.quota _ (sym (answered (goal.at.fill_from-requires c).After-ask_fill) ∙ c.in-Go.is)
+fill_from-requires c = taken (section (goal.at.fill_from-requires c).After-ask_fill) c.args.processor c.args.place c.args.quota _ (sym (answered (goal.at.fill_from-requires c).After-ask_fill) ∙ c.in-Go.is)
 
 pub returns-in-Go : goal.returns-in-Go
-returns-in-Go c =
-    let s = start c in
-    bytes-done (section (goal.at.returns-in-Go c).After-ask_fill) s.args.processor s.args.place s.args.quota _ _ _ _ (sym (answered (goal.at.returns-in-Go c).After-ask_fill) ∙ c.in-Go.is) c.fill_from.ensures
+returns-in-Go c = bytes-done (section (goal.at.returns-in-Go c).After-ask_fill) c.args.processor c.args.place c.args.quota _ _ _ _ (sym (answered (goal.at.returns-in-Go c).After-ask_fill) ∙ c.in-Go.is) c.fill_from.ensures
 
 pub returns-in-Refused : goal.returns-in-Refused
-returns-in-Refused c =
-    let s = start c in
-    bytes-refused (section (goal.at.returns-in-Refused c).After-ask_fill) s.args.processor s.args.place s.args.quota _ _ (sym (answered (goal.at.returns-in-Refused c).After-ask_fill) ∙ c.in-Refused.is)
+returns-in-Refused c = bytes-refused (section (goal.at.returns-in-Refused c).After-ask_fill) c.args.processor c.args.place c.args.quota _ _ (sym (answered (goal.at.returns-in-Refused c).After-ask_fill) ∙ c.in-Refused.is)

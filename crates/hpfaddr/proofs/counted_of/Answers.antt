@@ -19,7 +19,7 @@ answer c = c.local_count.ensures.result_value ∙ (λ i. local_count (mapping_wi
 
 counted : (c : In-Elements-2) → let a : LocalCountAnswer = record { refusal = 0; elements = c.in-Elements.n } in
     (a ≡ local_count (mapping_with c.args.m c.args.sizes.now) c.args.processor) × CountedFits a
-counted c = with_size CountedFits (sym (ap counted_as c.in-Elements.is) ∙ answer c.before) (local-count-small _ _)
+counted c = with_size CountedFits (sym (ap counted_as c.in-Elements.is) ∙ (c.local_count.ensures.result_value ∙ (λ i. local_count (mapping_with c.args.m c.args.sizes.now) (to_z-of_z w64 c.args.processor c.ranges.processor i)))) (local-count-small _ _)
 
 pub overflow_cast-result : goal.overflow_cast-result
 overflow_cast-result c = record { fits = omega (arith, (counted (goal.at.overflow_cast-result c).In-Elements-2).1) }

@@ -22,20 +22,20 @@ answer c = c.going_back.ensures.result_value ∙ (λ i. going_back (mapping_with
 
 found : (c : In-At-2) → let a : GoingBackAnswer = record { refusal = 0; index = c.in-At.j.0 } in
     (a ≡ going_back (mapping_with c.args.m c.args.sizes.now) c.args.processor c.args.address) × FoundFits a
-found c = with_size FoundFits (sym (ap found_as c.in-At.is) ∙ answer c.before) (going-back-small _ _ _)
+found c = with_size FoundFits (sym (ap found_as c.in-At.is) ∙ (c.going_back.ensures.result_value ∙ (λ i. going_back (mapping_with c.args.m c.args.sizes.now) (to_z-of_z w64 c.args.processor c.ranges.processor i) (to_z-of_z w64 c.args.address c.ranges.address i)))) (going-back-small _ _ _)
 
 -- the index as it is read from its 64 bits, and that it fits 32
-index : (c : In-At-2) → ℤ
+abbrev index : (c : In-At-2) → ℤ
 index c =
     c.in-At.j.0
 
-read : (c : In-At-2) → back w64 index c ≡ index c
+read : (c : In-At-2) → back w64 (index c) ≡ (index c)
 read c =
-    to_z-of_z w64 index (small-fits w64 index (omega (arith, (found c).1)))
+    to_z-of_z w64 (index c) (small-fits w64 (index c) (omega (arith, (found c).1)))
 
-fits : (c : In-At-2) → SFits w32 index c
+fits : (c : In-At-2) → SFits w32 (index c)
 fits c =
-    small-fits w32 index (omega (arith, (found c).1))
+    small-fits w32 (index c) (omega (arith, (found c).1))
 
 pub overflow_cast-result : goal.overflow_cast-result
 overflow_cast-result c = fits-as w32 (read (goal.at.overflow_cast-result c).In-At-2) (fits (goal.at.overflow_cast-result c).In-At-2)

@@ -13,18 +13,20 @@ use Rattle.mapping.specs.Answers.{local_count_in}
 use Rattle.mapping.specs.Bounds.{Dealt}
 use Rattle.mapping.proofs.Signs.{said-no, said-yes, below-natural}
 use Rattle.mapping.proofs.PartLaws.{covered, held-part}
+use mathlib.Core.Bool.{not}
+use mathlib.Core.Path.{ap}
 use Rattle.mapping.proofs.counted_in.Goals as goal
 use Rattle.mapping.proofs.counted_in.Goals.{After-natural-q, Else-not-is_below}
 
 pub returns-then-not-is_below : goal.returns-then-not-is_below
 unfolding local_count_in
-returns-then-not-is_below c = record { result_value = rw (said-no (is_below (pos c.args.l.processors)) c.args.processor c.ranges.processor c.is_below.ensures c.if-not-is_below.true); told_apart = (omega arith, tt) }
+returns-then-not-is_below c = record { result_value = rw (said-no (is_below (pos c.args.l.processors)) c.args.processor c.ranges.processor c.is_below.ensures (ap not c.if-not-is_below.true)); told_apart = (omega arith, tt) }
 
 is-processor : (c : Else-not-is_below) → is_below (pos c.args.l.processors) c.args.processor ≡ true
-is-processor c = said-yes (is_below (pos c.args.l.processors)) c.args.processor c.ranges.processor c.is_below.ensures c.if-not-is_below.false
+is-processor c = said-yes (is_below (pos c.args.l.processors)) c.args.processor c.ranges.processor c.is_below.ensures (ap not c.if-not-is_below.false)
 
 dealt : (c : After-natural-q) → Dealt c.args.l c.natural-q.result
-dealt c = record { sized = c.requires.sized; processor = below-natural _ _ c.ranges.processor c.natural-q.ensures (is-processor c.before) }
+dealt c = record { sized = c.requires.sized; processor = below-natural _ _ c.ranges.processor c.natural-q.ensures ((said-yes (is_below (pos c.args.l.processors)) c.args.processor c.ranges.processor c.is_below.ensures (ap not c.if-not-is_below.false))) }
 
 pub part_of-part-requires : goal.part_of-part-requires
 part_of-part-requires c = record { listed = c.requires.listed; dealt = dealt (goal.at.part_of-part-requires c).After-natural-q }

@@ -15,6 +15,7 @@ use Rattle.model.specs.Questions.{between}
 use Rattle.model.proofs.BoundLaws.{within-from}
 use Rattle.model.proofs.QuestionLaws.{Below, below-is}
 use Rattle.mapping.specs.Answers.{ownership_in}
+use mathlib.Core.Bool.{not}
 use Rattle.mapping.proofs.owned_in.Goals as goal
 use Rattle.mapping.proofs.owned_in.Goals.{After-natural, After-within, Else-not-within}
 
@@ -37,35 +38,39 @@ asked c =
 
 pub returns-then-not-within : goal.returns-then-not-within
 unfolding ownership_in
-returns-then-not-within c = record { result_value = rw (sym (asked (goal.at.returns-then-not-within c).After-within) ∙ not-true _ c.if-not-within.true); told_apart = (omega arith, tt) }
+returns-then-not-within c = record { result_value = rw (sym (asked (goal.at.returns-then-not-within c).After-within) ∙ not-true _ (ap not c.if-not-within.true)); told_apart = (omega arith, tt) }
 
 is-index : (c : Else-not-within) → between c.args.lower (c.args.lower +ℤ pos c.args.l.size -ℤ pos 1) c.args.index ≡ true
 is-index c =
-    sym (asked c.before) ∙ not-false _ c.if-not-within.false
+    sym ((let j = to_z-of_z w64 c.args.index c.ranges.index in
+    let l = to_z-of_z w64 c.args.lower c.ranges.lower in
+    let n = to_z_pos w64 c.args.l.size (omega (arith, c.requires.ranged.0.size-high)) in
+    let r = to_z-of_z w64 c.last_of-last.result (record { sfits = c.last_of-last.type_inv }) ∙ c.last_of-last.ensures in
+    c.within.ensures ∙ (λ i. between (l i) (r i) (j i)) ∙ (λ i. between c.args.lower (l i +ℤ n i -ℤ pos 1) c.args.index))) ∙ not-false _ (ap not c.if-not-within.false)
 
 -- the index from 0
-from : (c : Else-not-within) → ℤ
+abbrev from : (c : Else-not-within) → ℤ
 from c =
     c.args.index -ℤ c.args.lower
 
-inside : (c : Else-not-within) → Below from c.args.l.size
+inside : (c : Else-not-within) → Below (from c) c.args.l.size
 unfolding nat
 inside c =
-    below-is from (pos c.args.l.size) (sym (within-from c.args.lower (pos c.args.l.size) c.args.index) ∙ is-index c)
+    below-is (from c) (pos c.args.l.size) (sym (within-from c.args.lower (pos c.args.l.size) c.args.index) ∙ (is-index c))
 
-taken : (c : Else-not-within) → back w64 c.args.index -ℤ back w64 c.args.lower ≡ from c
+taken : (c : Else-not-within) → back w64 c.args.index -ℤ back w64 c.args.lower ≡ (from c)
 taken c =
     λ i. to_z-of_z w64 c.args.index c.ranges.index i -ℤ to_z-of_z w64 c.args.lower c.ranges.lower i
 
-from-fits : (c : Else-not-within) → SFits w64 from c
+from-fits : (c : Else-not-within) → SFits w64 (from c)
 from-fits c =
-    small-fits w64 from (omega (arith, ap nat_abs inside c.whole, inside c.below, c.requires.ranged.0.size-high))
+    small-fits w64 (from c) (omega (arith, ap nat_abs inside.whole, inside.below, c.requires.ranged.0.size-high))
 
 pub overflow_sub-index : goal.overflow_sub-index
 overflow_sub-index c = fits-as w64 (taken (goal.at.overflow_sub-index c).Else-not-within) (from-fits (goal.at.overflow_sub-index c).Else-not-within)
 
-counted : (c : After-natural) → c.natural.result ≡ nat (from c.before)
-counted c = c.natural.ensures ∙ ap nat (back_as w64 (taken c.before) (from-fits c.before))
+counted : (c : After-natural) → c.natural.result ≡ nat ((c.args.index -ℤ c.args.lower))
+counted c = c.natural.ensures ∙ ap nat (back_as w64 ((λ i. to_z-of_z w64 c.args.index c.ranges.index i -ℤ to_z-of_z w64 c.args.lower c.ranges.lower i)) ((small-fits w64 (c.args.index -ℤ c.args.lower) (omega (arith, ap nat_abs inside.whole, inside.below, c.requires.ranged.0.size-high)))))
 
 index-lt : (c : After-natural) → c.natural.result < c.args.l.size
 index-lt c = omega (arith, counted c, (inside c.before).below)

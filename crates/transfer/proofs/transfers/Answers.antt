@@ -19,30 +19,26 @@ answered c =
     ∙ (λ i. pair_asked (section_with c.args.left c.args.left_sizes.now) (section_with c.args.right c.args.right_sizes.now) (to_z-of_z w64 c.args.sender c.ranges.sender i) (to_z-of_z w64 c.args.receiver c.ranges.receiver i))
 
 pub list_pair-requires : goal.list_pair-requires
-list_pair-requires c =
-    let s = start c in
-    pair_fits (section_with s.args.left s.args.left-sizes.now) (section_with s.args.right s.args.right-sizes.now) s.args.sender s.args.receiver _ (sym (answered (goal.at.list_pair-requires c).After-ask_pair) ∙ c.in-By.is)
+list_pair-requires c = pair_fits (section_with c.args.left c.args.left_sizes.now) (section_with c.args.right c.args.right_sizes.now) c.args.sender c.args.receiver _ (sym (answered (goal.at.list_pair-requires c).After-ask_pair) ∙ c.in-By.is)
 
 pub returns-in-By : goal.returns-in-By
 returns-in-By c =
-    let s = start c in
-    let x = lists_of s.args.positions.now s.args.sent.now s.args.received.now in
+    let x = lists_of c.args.positions.now c.args.sent.now c.args.received.now in
     let by = sym (answered (goal.at.returns-in-By c).After-ask_pair) ∙ c.in-By.is in let whole = (
-      ap transferred_as c.list_pair.ensures.value ∙ answer-by (section_with s.args.left s.args.left-sizes.now) (section_with s.args.right s.args.right-sizes.now) s.args.sender s.args.receiver x _ by,
+      ap transferred_as c.list_pair.ensures.value ∙ answer-by (section_with c.args.left c.args.left_sizes.now) (section_with c.args.right c.args.right_sizes.now) c.args.sender c.args.receiver x _ by,
       (
-        c.list_pair.ensures.received_after ∙ lists-by (section_with s.args.left s.args.left-sizes.now) (section_with s.args.right s.args.right-sizes.now) s.args.sender s.args.receiver x _ by,
+        c.list_pair.ensures.received_after ∙ lists-by (section_with c.args.left c.args.left_sizes.now) (section_with c.args.right c.args.right_sizes.now) c.args.sender c.args.receiver x _ by,
         subst (λ (r : Transferred). ToldApart (transferred_refusals r)) (sym c.list_pair.ensures.value) (told-by _ x),
       ),
     ) in record { result_value = whole.0; received_after = whole.1; told_apart = whole.2 }
 
 pub returns-in-Refused : goal.returns-in-Refused
 returns-in-Refused c =
-    let s = start c in
-    let x = lists_of s.args.positions.now s.args.sent.now s.args.received.now in
+    let x = lists_of c.args.positions.now c.args.sent.now c.args.received.now in
     let by = sym (answered (goal.at.returns-in-Refused c).After-ask_pair) ∙ c.in-Refused.is in let whole = (
-      answer-refused (section_with s.args.left s.args.left-sizes.now) (section_with s.args.right s.args.right-sizes.now) s.args.sender s.args.receiver x _ by,
+      answer-refused (section_with c.args.left c.args.left_sizes.now) (section_with c.args.right c.args.right_sizes.now) c.args.sender c.args.receiver x _ by,
       (
-        lists-refused (section_with s.args.left s.args.left-sizes.now) (section_with s.args.right s.args.right-sizes.now) s.args.sender s.args.receiver x _ by,
-        (told-refused (section_with s.args.left s.args.left-sizes.now) (section_with s.args.right s.args.right-sizes.now) s.args.sender s.args.receiver x _ by, tt),
+        lists-refused (section_with c.args.left c.args.left_sizes.now) (section_with c.args.right c.args.right_sizes.now) c.args.sender c.args.receiver x _ by,
+        (told-refused (section_with c.args.left c.args.left_sizes.now) (section_with c.args.right c.args.right_sizes.now) c.args.sender c.args.receiver x _ by, tt),
       ),
     ) in record { result_value = whole.0; received_after = whole.1; told_apart = whole.2 }

@@ -17,28 +17,20 @@ learnt : (c : In-Learnt-2) → InBlocks c.args.s × Planned c.args.s.section c.a
 learnt c = subst (λ (z : Plan). InBlocks c.args.s × Planned c.args.s.section c.args.s.processor z) c.in-Learnt.is c.requires
 
 pub fill_bytes-requires : goal.fill_bytes-requires
-fill_bytes-requires c =
-    let s = start c in
-    constant-starts s.args.s s.pre.0 c.state_at-state.result c.state_at-state.ensures _ (constant (goal.at.fill_bytes-requires c).In-Constant-2).1
+fill_bytes-requires c = constant-starts c.args.s c.requires.0 c.state_at-state.result c.state_at-state.ensures _ (constant (goal.at.fill_bytes-requires c).In-Constant-2).1
 
 pub fill_long_learning-requires : goal.fill_long_learning-requires
 fill_long_learning-requires c =
-    let s = start c in
-    let t = s.pre.0.taken in
     rw c.task_of.ensures (
       (
-        elements-placed _ s.pre.0.started.section-bounded,
-        learnt-starts s.args.s s.pre.0 c.state_at-state.result c.state_at-state.ensures _ (learnt (goal.at.fill_long_learning-requires c).In-Learnt-2).1,
+        elements-placed _ c.requires.0.started.section-bounded,
+        learnt-starts c.args.s c.requires.0 c.state_at-state.result c.state_at-state.ensures _ (learnt (goal.at.fill_long_learning-requires c).In-Learnt-2).1,
       ),
-      ((learnt (goal.at.fill_long_learning-requires c).In-Learnt-2).1 t.source t.accepted t.same).3,
+      ((learnt (goal.at.fill_long_learning-requires c).In-Learnt-2).1 c.requires.0.taken.source c.requires.0.taken.accepted c.requires.0.taken.same).3,
     )
 
 pub returns-in-Constant : goal.returns-in-Constant
-returns-in-Constant c =
-    let s = start c in
-    bytes-constant s.args.s s.pre.0 c.state_at-state.result c.state_at-state.ensures _ _ _ c.fill_bytes.result (constant (goal.at.returns-in-Constant c).In-Constant-2).1 c.fill_bytes.ensures
+returns-in-Constant c = bytes-constant c.args.s c.requires.0 c.state_at-state.result c.state_at-state.ensures _ _ _ c.fill_bytes.result (constant (goal.at.returns-in-Constant c).In-Constant-2).1 c.fill_bytes.ensures
 
 pub returns-in-Learnt : goal.returns-in-Learnt
-returns-in-Learnt c =
-    let s = start c in
-    bytes-learnt s.args.s s.pre.0 c.state_at-state.result c.state_at-state.ensures _ _ _ c.fill_long_learning.result (learnt (goal.at.returns-in-Learnt c).In-Learnt-2).1 _ c.task_of.ensures c.fill_long_learning.ensures
+returns-in-Learnt c = bytes-learnt c.args.s c.requires.0 c.state_at-state.result c.state_at-state.ensures _ _ _ c.fill_long_learning.result (learnt (goal.at.returns-in-Learnt c).In-Learnt-2).1 _ c.task_of.ensures c.fill_long_learning.ensures

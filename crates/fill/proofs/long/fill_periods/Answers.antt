@@ -29,30 +29,26 @@ returns-then-w-u c =
     long-ends c.args.s c.args.plan c.requires.0.blocks c.requires.0.planned c.requires.0.below x ok same _ _ _ c.requires.2 _ c.fill_part-first.ensures c.if-w-u.true
 
 pub overflow_add-add : goal.overflow_add-add
-overflow_add-add c =
-    let s = begun c in
-    omega (arith, c.address_at.ensures, address-fits s.args.s.section s.pre.0.blocks.started.section-bounded _ c.if-w-u.false)
+overflow_add-add c = omega (arith, c.address_at.ensures, address-fits c.args.s.section c.requires.0.blocks.started.section-bounded _ c.if-w-u.false)
 
 pub overflow_sub-period : goal.overflow_sub-period
 overflow_sub-period c = omega (arith, (found (goal.at.overflow_sub-period c).Then-has_returned).later)
 
 pub pass_periods-requires : goal.pass_periods-requires
 pass_periods-requires c =
-    let s = begun c in
-    let b = s.pre.0 in
     let r = found (goal.at.pass_periods-requires c).Then-has_returned in
-    let small = plan-small s.args.s b.blocks s.args.plan b.planned in
+    let small = plan-small c.args.s c.requires.0.blocks c.args.plan c.requires.0.planned in
     rw c.moves_of.ensures (record {
       small = small.0;
-      column = rw b.column (column-low s.args.s b.blocks s.args.plan b.planned _);
-      count_low = omega (arith, b.blocks.started.section-bounded.count-high);
-      quota-low = omega (arith, b.blocks.started.most);
-      entries = s.pre.1;
+      column = rw c.requires.0.column (column-low c.args.s c.requires.0.blocks c.args.plan c.requires.0.planned _);
+      count_low = omega (arith, c.requires.0.blocks.started.section-bounded.count-high);
+      quota-low = omega (arith, c.requires.0.blocks.started.most);
+      entries = c.requires.1;
       places = omega (arith, r.later);
       some = r.some;
       far = omega (arith, r.later, c.if-w-u.false);
       tries = r.tries;
-      room = rw (same_size (goal.at.pass_periods-requires c).Then-has_returned) s.pre.2;
+      room = rw (same_size (goal.at.pass_periods-requires c).Then-has_returned) c.requires.2;
       add = mod-lt _ (omega arith);
     })
 
@@ -61,17 +57,14 @@ shape_of-list-then-has_returned c = c.pass_periods.ensures.copied.size ∙ same_
 
 pub returns-then-has_returned : goal.returns-then-has_returned
 returns-then-has_returned c =
-    let f = filled c in
-    let s = begun c in
-    let b = s.pre.0 in
     λ x ok same.
-    long-passes s.args.s s.args.plan b.blocks b.planned b.below x ok same _ _ _ s.pre.2 _ f.fill-part.ensures
-    _ b.column s.pre.1 (found (goal.at.returns-then-has_returned c).Then-has_returned) c.if-w-u.false
+    long-passes c.args.s c.args.plan c.requires.0.blocks c.requires.0.planned c.requires.0.below x ok same _ _ _ c.requires.2 _ c.fill_part-first.ensures
+    _ c.requires.0.column c.requires.1 (found (goal.at.returns-then-has_returned c).Then-has_returned) c.if-w-u.false
     (record {
-      column = s.args.column;
-      entries = s.args.e;
-      places = f.fill-part.result.place.0 - s.args.s.place.0;
-      tries = f.fill-part.result.tries;
+      column = c.args.column;
+      entries = c.args.e;
+      places = c.fill_part-first.result.place.0 - c.args.s.place.0;
+      tries = c.fill_part-first.result.tries;
       add = (c.address_at.result.0 + (4294967296 - c.word_at.result)) % 4294967296;
     })
     refl refl refl refl (λ i. (c.address_at.ensures i + (4294967296 - c.word_at.ensures i)) % 4294967296)

@@ -19,6 +19,7 @@ use Rattle.fill.specs.declared.ready.Ready.{Ready}
 use Rattle.fill.specs.declared.ready.Ready.TheVariants.{Go}
 use Rattle.fill.specs.Ready.{is_place_in, ready_in, SoundReady}
 use Rattle.fill.proofs.ReadyLaws.{ready-sound}
+use mathlib.Core.Bool.{not}
 use Rattle.fill.proofs.ready.ready_in.Goals as goal
 use Rattle.fill.proofs.ready.ready_in.Goals.{After-is_place, After-share_of-share, Else-not-is_place, Else-not-is_processor}
 
@@ -33,27 +34,27 @@ pub returns-then-not-is_processor : goal.returns-then-not-is_processor
 unfolding ready_in first_no
 returns-then-not-is_processor c =
     let whole = answered c
-    (rw (said-no (is_below (pos c.args.w.layout.processors)) c.args.processor c.ranges.processor c.is_processor.ensures c.if-not-is_processor.true)) in record { value = whole.0; sound_ready = whole.1 }
+    (rw (said-no (is_below (pos c.args.w.layout.processors)) c.args.processor c.ranges.processor c.is_processor.ensures (ap not c.if-not-is_processor.true))) in record { value = whole.0; sound_ready = whole.1 }
 
 eighth : (c : Else-not-is_processor) → is_below (pos c.args.w.layout.processors) c.args.processor ≡ true
 eighth c =
-    said-yes (is_below (pos c.args.w.layout.processors)) c.args.processor c.ranges.processor c.is_processor.ensures c.if-not-is_processor.false
+    said-yes (is_below (pos c.args.w.layout.processors)) c.args.processor c.ranges.processor c.is_processor.ensures (ap not c.if-not-is_processor.false)
 
 pub share_of-share-requires : goal.share_of-share-requires
 share_of-share-requires c = (c.requires.0, c.requires.1, ap (is_below (pos c.args.w.layout.processors)) (to_z-of_z w64 c.args.processor c.ranges.processor) ∙ eighth (goal.at.share_of-share-requires c).Else-not-is_processor)
 
 -- the share, of the parameters
-share_for : (c : After-share_of-share) → ℤ → Share
+abbrev share_for : (c : After-share_of-share) → ℤ → Share
 share_for c q =
     share_in c.args.w (nat q) (part_in (dealing_with c.args.d c.args.sizes.now) (nat q))
 
-share : (c : After-share_of-share) → Share
+abbrev share : (c : After-share_of-share) → Share
 share c =
-    share_for c.args.processor
+    (share_for c) c.args.processor
 
-share-is : (c : After-share_of-share) → c.share_of-share.result ≡ share c
+share-is : (c : After-share_of-share) → c.share_of-share.result ≡ (share c)
 share-is c =
-    read_of w64 share_for c.args.processor c.ranges.processor c.share_of-share.ensures
+    read_of w64 (share_for c) c.args.processor c.ranges.processor c.share_of-share.ensures
 
 pub is_place-requires : goal.is_place-requires
 unfolding nat
@@ -62,38 +63,38 @@ is_place-requires c =
     (record { bounded = c.requires.0; processor = (below-is c.args.processor (pos c.args.w.layout.processors) (eighth (goal.at.is_place-requires c).Else-not-is_processor)).below })
 
 -- the answer to question 10, of the parameters
-place-said : (c : After-is_place) → c.is_place.result ≡ is_place_in (share c.before) c.args.place
+place-said : (c : After-is_place) → c.is_place.result ≡ is_place_in (((share_for c) c.args.processor)) c.args.place
 place-said c =
-    let s = begun c in
-    read_of w64 (is_place_in c.share_of-share.result) s.args.place s.fits.place c.is_place.ensures
-    ∙ (λ i. is_place_in (share-is c.before i) s.args.place)
+    read_of w64 (is_place_in c.share_of-share.result) c.args.place c.ranges.place c.is_place.ensures
+    ∙ (λ i. is_place_in ((read_of w64 (share_for c) c.args.processor c.ranges.processor c.share_of-share.ensures) i) c.args.place)
 
 pub returns-then-not-is_place : goal.returns-then-not-is_place
 unfolding ready_in first_no
-returns-then-not-is_place c = let whole = answered c (rw (eighth (goal.at.returns-then-not-is_place c).Else-not-is_processor, sym (place-said (goal.at.returns-then-not-is_place c).After-is_place) ∙ not-true _ c.if-not-is_place.true)) in record { value = whole.0; sound_ready = whole.1 }
+returns-then-not-is_place c = let whole = answered c (rw (eighth (goal.at.returns-then-not-is_place c).Else-not-is_processor, sym (place-said (goal.at.returns-then-not-is_place c).After-is_place) ∙ not-true _ (ap not c.if-not-is_place.true))) in record { value = whole.0; sound_ready = whole.1 }
 
-tenth : (c : Else-not-is_place) → is_place_in (share c.before.before) c.args.place ≡ true
-tenth c = sym (place-said c.before) ∙ not-false _ c.if-not-is_place.false
+tenth : (c : Else-not-is_place) → is_place_in (((share_for c) c.args.processor)) c.args.place ≡ true
+tenth c =
+    sym ((read_of w64 (is_place_in c.share_of-share.result) c.args.place c.ranges.place c.is_place.ensures
+    ∙ (λ i. is_place_in ((read_of w64 (share_for c) c.args.processor c.ranges.processor c.share_of-share.ensures) i) c.args.place))) ∙ not-false _ (ap not c.if-not-is_place.false)
 
 pub returns-then-not-within : goal.returns-then-not-within
 unfolding ready_in first_no
 returns-then-not-within c =
-    let s = start c in let whole = answered s
+    let whole = answered c
     (rw (
       eighth (goal.at.returns-then-not-within c).Else-not-is_processor,
       tenth (goal.at.returns-then-not-within c).Else-not-is_place,
-      said-no (between (pos 3) (pos 1000000)) s.args.quota s.fits.quota c.within.ensures c.if-not-within.true,
+      said-no (between (pos 3) (pos 1000000)) c.args.quota c.ranges.quota c.within.ensures (ap not c.if-not-within.true),
     )) in record { value = whole.0; sound_ready = whole.1 }
 
 pub returns : goal.returns
 unfolding ready_in first_no
 returns c =
-    let s = start c in
-    let place = read_of w64 nat s.args.place s.fits.place c.natural.ensures in
-    let quota = read_of w64 nat s.args.quota s.fits.quota c.natural-2.ensures in let whole = answered s
+    let place = read_of w64 nat c.args.place c.ranges.place c.natural.ensures in
+    let quota = read_of w64 nat c.args.quota c.ranges.quota c.natural-2.ensures in let whole = answered c
     (rw (
       eighth (goal.at.returns c).Else-not-is_processor,
       tenth (goal.at.returns c).Else-not-is_place,
-      said-yes (between (pos 3) (pos 1000000)) s.args.quota s.fits.quota c.within.ensures c.if-not-within.false,
+      said-yes (between (pos 3) (pos 1000000)) c.args.quota c.ranges.quota c.within.ensures (ap not c.if-not-within.false),
     )
-    (λ i. Go (record { section = s.args.w; processor = (share-is (goal.at.returns c).After-share_of-share i).processor; extent = (share-is (goal.at.returns c).After-share_of-share i).extent; place = record { 0 = place i }; quota = quota i }))) in record { value = whole.0; sound_ready = whole.1 }
+    (λ i. Go (record { section = c.args.w; processor = (share-is (goal.at.returns c).After-share_of-share i).processor; extent = (share-is (goal.at.returns c).After-share_of-share i).extent; place = record { 0 = place i }; quota = quota i }))) in record { value = whole.0; sound_ready = whole.1 }

@@ -46,7 +46,7 @@ inside c =
     let h = c.args.r.high.0 - c.args.s.place.0 in
     let a = fewest-le (fewest h (c.args.s.quota - 2)) (length c.args.list.now / 4) in
     let b = fewest-le h (c.args.s.quota - 2) in
-    (omega (arith, written c, a.1), omega (arith, written c, a.0, b.0, (room c.args.s c.args.r c.requires).0))
+    (omega (arith, (written c), a.1), omega (arith, (written c), a.0, b.0, (room c.args.s c.args.r c.requires).0))
 
 pub put_run-requires : goal.put_run-requires
 put_run-requires c = ((inside (goal.at.put_run-requires c).After-onward_by).0, omega (arith, low (goal.at.put_run-requires c).After-onward_by), omega (arith, c.onward_by.ensures, onward-low c.args.s.section.upward c.args.s.section.stride))

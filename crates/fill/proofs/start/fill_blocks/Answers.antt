@@ -13,38 +13,26 @@ plan_of-requires c = (c.requires.taken, c.requires.started.processor)
 
 -- the plan, in each of its cases
 constant : (c : In-Constant-2) → Planned c.args.s.section c.args.s.processor (Constant c.in-Constant.m)
-constant c =
-    let s = start c in
-    subst (Planned s.args.s.section s.args.s.processor) c.in-Constant.is c.plan_of.ensures
+constant c = subst (Planned c.args.s.section c.args.s.processor) c.in-Constant.is c.plan_of.ensures
 
 learnt : (c : In-Learnt-2) → Planned c.args.s.section c.args.s.processor (Learnt c.in-Learnt.m)
-learnt c =
-    let s = start c in
-    subst (Planned s.args.s.section s.args.s.processor) c.in-Learnt.is c.plan_of.ensures
+learnt c = subst (Planned c.args.s.section c.args.s.processor) c.in-Learnt.is c.plan_of.ensures
 
 pub fill_bytes-requires : goal.fill_bytes-requires
-fill_bytes-requires c =
-    let s = start c in
-    constant-starts s.args.s s.pre c.state_at-state.result c.state_at-state.ensures _ (constant (goal.at.fill_bytes-requires c).In-Constant-2)
+fill_bytes-requires c = constant-starts c.args.s c.requires c.state_at-state.result c.state_at-state.ensures _ (constant (goal.at.fill_bytes-requires c).In-Constant-2)
 
 pub fill_bytes_learning-requires : goal.fill_bytes_learning-requires
 fill_bytes_learning-requires c =
-    let s = start c in
-    let t = s.pre.taken in
     rw c.task_of.ensures (
       (
-        elements-placed _ s.pre.started.section-bounded,
-        learnt-starts s.args.s s.pre c.state_at-state.result c.state_at-state.ensures _ (learnt (goal.at.fill_bytes_learning-requires c).In-Learnt-2),
+        elements-placed _ c.requires.started.section-bounded,
+        learnt-starts c.args.s c.requires c.state_at-state.result c.state_at-state.ensures _ (learnt (goal.at.fill_bytes_learning-requires c).In-Learnt-2),
       ),
-      (learnt (goal.at.fill_bytes_learning-requires c).In-Learnt-2 t.source t.accepted t.same).3,
+      (learnt (goal.at.fill_bytes_learning-requires c).In-Learnt-2 c.requires.taken.source c.requires.taken.accepted c.requires.taken.same).3,
     )
 
 pub returns-in-Constant : goal.returns-in-Constant
-returns-in-Constant c =
-    let s = start c in
-    bytes-constant s.args.s s.pre c.state_at-state.result c.state_at-state.ensures _ _ _ c.fill_bytes.result (constant (goal.at.returns-in-Constant c).In-Constant-2) c.fill_bytes.ensures
+returns-in-Constant c = bytes-constant c.args.s c.requires c.state_at-state.result c.state_at-state.ensures _ _ _ c.fill_bytes.result (constant (goal.at.returns-in-Constant c).In-Constant-2) c.fill_bytes.ensures
 
 pub returns-in-Learnt : goal.returns-in-Learnt
-returns-in-Learnt c =
-    let s = start c in
-    bytes-learnt s.args.s s.pre c.state_at-state.result c.state_at-state.ensures _ _ _ c.fill_bytes_learning.result (learnt (goal.at.returns-in-Learnt c).In-Learnt-2) _ c.task_of.ensures c.fill_bytes_learning.ensures
+returns-in-Learnt c = bytes-learnt c.args.s c.requires c.state_at-state.result c.state_at-state.ensures _ _ _ c.fill_bytes_learning.result (learnt (goal.at.returns-in-Learnt c).In-Learnt-2) _ c.task_of.ensures c.fill_bytes_learning.ensures

@@ -20,7 +20,5 @@ address_at-requires c = record { bounded = c.requires.started.section-bounded; b
 
 pub returns : goal.returns
 returns c =
-    let s = start c in
-    let w = s.args.s.section in
-    state-on s.args.s s.pre _ _ c.if-w-t.false
-    (c.column_of.ensures ∙ ap (λ z. on_way w.upward w.layout.block (column_of w.layout z)) c.cell_at.ensures) c.address_at.ensures
+    state-on c.args.s c.requires _ _ c.if-w-t.false
+    (c.column_of.ensures ∙ ap (λ z. on_way c.args.s.section.upward c.args.s.section.layout.block (column_of c.args.s.section.layout z)) c.cell_at.ensures) c.address_at.ensures

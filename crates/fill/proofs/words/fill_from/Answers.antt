@@ -20,15 +20,11 @@ pub offset_bounds-list-n : goal.offset_bounds-list-n
 offset_bounds-list-n c = omega (arith, c.loop-n-test.true, c.loop-n.inv.same, c.good.1.0.0)
 
 pub fill_chunk-r-requires : goal.fill_chunk-r-requires
-fill_chunk-r-requires c =
-    let b = loop c in
-    (rest-accepted b.pre b.loop.inv c.if-s-paid-lt-LEAST_TRIES.false, simp length-take (omega (arith, c.chunk_end-end.ensures)))
+fill_chunk-r-requires c = (rest-accepted c.requires c.loop-n.inv c.if-s-paid-lt-LEAST_TRIES.false, simp length-take (omega (arith, c.chunk_end-end.ensures)))
 
 -- after a chunk no more is paid than the quota, and written than there are entries
 after : (c : After-fill_chunk-r) → (c.loop-n.paid + c.fill_chunk-r.result.tries ≤ c.args.s.quota) × (c.loop-n.n + c.fill_chunk-r.result.entries ≤ length c.args.list.now)
-after c =
-    let b = loop c in
-    bounds b.pre (chunk-on b.pre b.loop.inv (c.chunk_end-end.result - b.loop.n) c.fill_chunk-r.ensures)
+after c = bounds c.requires (chunk-on c.requires c.loop-n.inv (c.chunk_end-end.result - c.loop-n.n) c.fill_chunk-r.ensures)
 
 pub overflow_add-paid : goal.overflow_add-paid
 overflow_add-paid c = omega (arith, (after (goal.at.overflow_add-paid c).After-fill_chunk-r).0, c.requires.started.most)
@@ -38,18 +34,15 @@ overflow_add-n c = omega (arith, (after (goal.at.overflow_add-n c).After-fill_ch
 
 pub loop-n-smaller : goal.loop-n-smaller
 loop-n-smaller c =
-    let b = loop c in
     omega (
       arith,
       (after (goal.at.loop-n-smaller c).After-fill_chunk-r).1,
-      chunk-some b.pre b.loop.inv (c.chunk_end-end.result - b.loop.n) c.fill_chunk-r.ensures c.if-place-w.false
+      chunk-some c.requires c.loop-n.inv (c.chunk_end-end.result - c.loop-n.n) c.fill_chunk-r.ensures c.if-place-w.false
           c.if-s-paid-lt-LEAST_TRIES.false (simp (length-take, length-drop) (omega (arith, c.chunk_end-end.ensures))),
     )
 
 pub loop-n-preserved : goal.loop-n-preserved
-loop-n-preserved c =
-    let b = loop c in
-    chunk-on b.pre b.loop.inv (c.chunk_end-end.result - b.loop.n) c.fill_chunk-r.ensures
+loop-n-preserved c = chunk-on c.requires c.loop-n.inv (c.chunk_end-end.result - c.loop-n.n) c.fill_chunk-r.ensures
 
 pub shape_of-list-after-loop-n : goal.shape_of-list-after-loop-n
 shape_of-list-after-loop-n c = c.loop-n.invariant.same

@@ -9,6 +9,7 @@ use Rattle.model.specs.Grids.{grid_array}
 use Rattle.grid.specs.declared.dimensions.Gridded.TheVariants as gridded
 use Rattle.grid.specs.Dimensions.{refusal_in, three_with}
 use Rattle.grid.proofs.AskLaws.{Passed, passed, passed-known, stopped, first-refused, second-refused, third-refused, products-refused, all-passed}
+use mathlib.Core.Bool.{not}
 use Rattle.grid.proofs.dimensions.ask_dimensions.Goals as goal
 use Rattle.grid.proofs.dimensions.ask_dimensions.Goals.{After-products_fit, In-By-2, In-By-plane-2, In-By-row-2}
 
@@ -36,10 +37,9 @@ second c =
 
 pub returns-in_default-plane : goal.returns-in_default-plane
 returns-in_default-plane c =
-    let a = (start c).args in
     ap gridded.Refused (c.refusal_of-in_default-plane.ensures ∙ ap refusal_in c.in_default-plane.is)
-    ∙ third-refused a.m a.n a.o a.b.now a.c.now a.d.now (first (goal.at.returns-in_default-plane c).In-By-2).none (second (goal.at.returns-in_default-plane c).In-By-row-2).none _
-    (stopped a.o a.d.now _ (sym c.ask_dimension-plane.ensures ∙ c.in_default-plane.is))
+    ∙ third-refused c.args.m c.args.n c.args.o c.args.b.now c.args.c.now c.args.d.now (first (goal.at.returns-in_default-plane c).In-By-2).none (second (goal.at.returns-in_default-plane c).In-By-row-2).none _
+    (stopped c.args.o c.args.d.now _ (sym c.ask_dimension-plane.ensures ∙ c.in_default-plane.is))
 
 -- the third passed
 third : (c : In-By-plane-2) → Passed c.args.o c.args.d.now c.in-By-plane.third
@@ -60,8 +60,8 @@ asked : (c : After-products_fit) → c.products_fit.result
 unfolding grid_array
 asked c =
     let u = (first (c c)).is in
-    let v = (second c.before.before.before.before.before.before).is in
-    let w = (third c.before.before.before.before).is in
+    let v = ((passed c.args.n c.args.c.now _ (sym c.ask_dimension-row.ensures ∙ c.in-By-row.is))).is in
+    let w = ((passed c.args.o c.args.d.now _ (sym c.ask_dimension-plane.ensures ∙ c.in-By-plane.is))).is in
     c.products_fit.ensures
     ∙ (λ i. leb ((u i).layout.processors * ((v i).layout.processors * (w i).layout.processors)) 1024
     && leb ((u i).layout.size * ((v i).layout.size * (w i).layout.size)) 2147483647)
@@ -69,7 +69,7 @@ asked c =
 pub returns-then-not-products_fit : goal.returns-then-not-products_fit
 returns-then-not-products_fit c =
     products-refused c.args.m c.args.n c.args.o c.args.b.now c.args.c.now c.args.d.now (first (near c)).none (second (goal.at.returns-then-not-products_fit c).In-By-row-2).none (third (goal.at.returns-then-not-products_fit c).In-By-plane-2).none
-    (sym (asked (goal.at.returns-then-not-products_fit c).After-products_fit) ∙ not-true _ c.if-not-products_fit.true)
+    (sym (asked (goal.at.returns-then-not-products_fit c).After-products_fit) ∙ not-true _ (ap not c.if-not-products_fit.true))
 
 pub returns : goal.returns
 returns c =
@@ -78,4 +78,4 @@ returns c =
     let w = third (goal.at.returns c).In-By-plane-2 in
     (λ i. gridded.By (record { first = u.is i; second = v.is i; third = w.is i }))
     ∙ all-passed c.args.m c.args.n c.args.o c.args.b.now c.args.c.now c.args.d.now u.none v.none w.none
-    (sym (asked (goal.at.returns c).After-products_fit) ∙ not-false _ c.if-not-products_fit.false)
+    (sym (asked (goal.at.returns c).After-products_fit) ∙ not-false _ (ap not c.if-not-products_fit.false))

@@ -14,6 +14,7 @@ use Rattle.model.proofs.PairLaws.{first-lt, second_lt}
 use Rattle.mapping.proofs.Signs.{said-no, said-yes, below-natural}
 use Rattle.grid.specs.Answers.{indices_from, index_in, found_among}
 use Rattle.grid.proofs.DimensionLaws.{held_small}
+use mathlib.Core.Bool.{not}
 use Rattle.grid.proofs.elements.found_among.Goals as goal
 use Rattle.grid.proofs.elements.found_among.Goals.{After-natural-a, Else-not-is_below}
 
@@ -27,43 +28,43 @@ overflow_mul-row c =
 
 pub returns-then-not-is_below : goal.returns-then-not-is_below
 unfolding found_among
-returns-then-not-is_below c = record { result_value = rw (said-no (is_below (pos (c.args.near.elements * (c.args.row.elements * c.args.plane.elements)))) c.args.address c.ranges.address c.is_below.ensures c.if-not-is_below.true); told_apart = (omega arith, tt) }
+returns-then-not-is_below c = record { result_value = rw (said-no (is_below (pos (c.args.near.elements * (c.args.row.elements * c.args.plane.elements)))) c.args.address c.ranges.address c.is_below.ensures (ap not c.if-not-is_below.true)); told_apart = (omega arith, tt) }
 
 is_address : (c : Else-not-is_below) → is_below (pos (c.args.near.elements * (c.args.row.elements * c.args.plane.elements))) c.args.address ≡ true
-is_address c = said-yes (is_below (pos (c.args.near.elements * (c.args.row.elements * c.args.plane.elements)))) c.args.address c.ranges.address c.is_below.ensures c.if-not-is_below.false
+is_address c = said-yes (is_below (pos (c.args.near.elements * (c.args.row.elements * c.args.plane.elements)))) c.args.address c.ranges.address c.is_below.ensures (ap not c.if-not-is_below.false)
 
 -- the parts of the address
-a : (c : After-natural-a) → ℕ
+abbrev a : (c : After-natural-a) → ℕ
 a c =
     c.natural-a.result
 
-near : (c : After-natural-a) → ℕ
+abbrev near : (c : After-natural-a) → ℕ
 near c =
     c.args.near.elements
 
-row : (c : After-natural-a) → ℕ
+abbrev row : (c : After-natural-a) → ℕ
 row c =
     c.args.row.elements
 
-plane : (c : After-natural-a) → ℕ
+abbrev plane : (c : After-natural-a) → ℕ
 plane c =
     c.args.plane.elements
 
-below : (c : After-natural-a) → a c < near c * (row c * plane c)
+below : (c : After-natural-a) → (a c) < (near c) * ((row c) * (plane c))
 below c =
-    below-natural c.args.address (near c * (row c * plane c)) c.ranges.address c.natural-a.ensures (is_address c.before)
+    below-natural c.args.address ((near c) * ((row c) * (plane c))) c.ranges.address c.natural-a.ensures ((said-yes (is_below (pos (c.args.near.elements * (c.args.row.elements * c.args.plane.elements)))) c.args.address c.ranges.address c.is_below.ensures (ap not c.if-not-is_below.false)))
 
-near-lt : (c : After-natural-a) → a c % near c < near c
+near-lt : (c : After-natural-a) → (a c) % (near c) < (near c)
 near-lt c =
-    first-lt near (row c * plane c) a c below c
+    first-lt (near c) ((row c) * (plane c)) (a c) (below c)
 
-row_lt : (c : After-natural-a) → a c / near c % row c < row c
+row_lt : (c : After-natural-a) → (a c) / (near c) % (row c) < (row c)
 row_lt c =
-    first-lt row c plane (a c / near c) (second_lt near (row c * plane c) a c below c)
+    first-lt (row c) (plane c) ((a c) / (near c)) (second_lt (near c) ((row c) * (plane c)) (a c) (below c))
 
-plane-lt : (c : After-natural-a) → a c / near c / row c < plane c
+plane-lt : (c : After-natural-a) → (a c) / (near c) / (row c) < (plane c)
 plane-lt c =
-    second_lt row c plane (a c / near c) (second_lt near (row c * plane c) a c below c)
+    second_lt (row c) (plane c) ((a c) / (near c)) (second_lt (near c) ((row c) * (plane c)) (a c) (below c))
 
 pub nonzero_div-rest : goal.nonzero_div-rest
 nonzero_div-rest c = omega (arith, near-lt (goal.at.nonzero_div-rest c).After-natural-a)
@@ -89,9 +90,8 @@ index_at-requires-3 c = (c.requires.held_known_2.1.0, plane-lt (goal.at.index_at
 pub returns : goal.returns
 unfolding found_among
 returns c =
-    let s = start c in
-    let e = read_of w64 nat s.args.address s.fits.address c.natural-a.ensures in
-    let i = c.index_at.ensures ∙ ap (λ (k : ℕ). index_in s.args.x.first s.args.near (k % near (goal.at.returns c).After-natural-a)) e in
-    let j = c.index_at-2.ensures ∙ ap (λ (k : ℕ). index_in s.args.x.second s.args.row (k / near (goal.at.returns c).After-natural-a % row (goal.at.returns c).After-natural-a)) e in
-    let k = c.index_at-3.ensures ∙ ap (λ (k : ℕ). index_in s.args.x.third s.args.plane (k / near (goal.at.returns c).After-natural-a / row (goal.at.returns c).After-natural-a)) e in
+    let e = read_of w64 nat c.args.address c.ranges.address c.natural-a.ensures in
+    let i = c.index_at.ensures ∙ ap (λ (k : ℕ). index_in c.args.x.first c.args.near (k % near (goal.at.returns c).After-natural-a)) e in
+    let j = c.index_at-2.ensures ∙ ap (λ (k : ℕ). index_in c.args.x.second c.args.row (k / near (goal.at.returns c).After-natural-a % row (goal.at.returns c).After-natural-a)) e in
+    let k = c.index_at-3.ensures ∙ ap (λ (k : ℕ). index_in c.args.x.third c.args.plane (k / near (goal.at.returns c).After-natural-a / row (goal.at.returns c).After-natural-a)) e in
     record { result_value = rw (is_address (goal.at.returns c).Else-not-is_below) (λ t. record { refusal = 0; indices = indices_from (i t) (j t) (k t) }); told_apart = tt }

@@ -15,6 +15,7 @@ use Rattle.mapping.proofs.Signs.{said-no, said-yes}
 use Rattle.grid.specs.Answers.{held_by, found_among, going_back_on}
 use Rattle.grid.proofs.DimensionLaws.{held-known}
 use Rattle.grid.proofs.ElementLaws.{near-below, row_below, plane-below, held_high, found-so}
+use mathlib.Core.Bool.{not}
 use Rattle.grid.proofs.elements.found_on.Goals as goal
 use Rattle.grid.proofs.elements.found_on.Goals.{After-held_by-plane, After-natural-o}
 
@@ -23,39 +24,39 @@ overflow_mul-q c = omega (arith, product_le 1024 1024 c.requires.second.ranged.0
 
 pub returns-then-not-is_below : goal.returns-then-not-is_below
 unfolding going_back_on
-returns-then-not-is_below c = record { result_value = rw (said-no (is_below (pos (c.args.x.first.layout.processors * (c.args.x.second.layout.processors * c.args.x.third.layout.processors)))) c.args.processor c.ranges.processor c.is_below.ensures c.if-not-is_below.true); told_apart = (omega arith, tt) }
+returns-then-not-is_below c = record { result_value = rw (said-no (is_below (pos (c.args.x.first.layout.processors * (c.args.x.second.layout.processors * c.args.x.third.layout.processors)))) c.args.processor c.ranges.processor c.is_below.ensures (ap not c.if-not-is_below.true)); told_apart = (omega arith, tt) }
 
 yes : (c : After-natural-o) → is_below (pos (c.args.x.first.layout.processors * (c.args.x.second.layout.processors * c.args.x.third.layout.processors))) c.args.processor ≡ true
 yes c =
     said-yes (is_below (pos (c.args.x.first.layout.processors * (c.args.x.second.layout.processors * c.args.x.third.layout.processors)))) c.args.processor c.ranges.processor c.is_below.ensures
-    c.if-not-is_below.false
+    (ap not c.if-not-is_below.false)
 
 number : (c : After-natural-o) → c.natural-o.result ≡ nat c.args.processor
 number c =
     read_of w64 nat c.args.processor c.ranges.processor c.natural-o.ensures
 
-p : (c : After-natural-o) → ℕ
+abbrev p : (c : After-natural-o) → ℕ
 p c =
     c.args.x.first.layout.processors
 
-q : (c : After-natural-o) → ℕ
+abbrev q : (c : After-natural-o) → ℕ
 q c =
     c.args.x.second.layout.processors
 
-near-lt : (c : After-natural-o) → c.natural-o.result % p c < p c
+near-lt : (c : After-natural-o) → c.natural-o.result % (p c) < (p c)
 near-lt c =
-    subst (λ (o : ℕ). o % p c < p c) (sym number c)
-    (near-below c.args.x c.args.b.now c.args.c.now c.args.d.now c.requires c.args.processor yes c)
+    subst (λ (o : ℕ). o % (p c) < (p c)) (sym (number c))
+    (near-below c.args.x c.args.b.now c.args.c.now c.args.d.now c.requires c.args.processor (yes c))
 
-row_lt : (c : After-natural-o) → c.natural-o.result / p c % q c < q c
+row_lt : (c : After-natural-o) → c.natural-o.result / (p c) % (q c) < (q c)
 row_lt c =
-    subst (λ (o : ℕ). o / p c % q c < q c) (sym number c)
-    (row_below c.args.x c.args.b.now c.args.c.now c.args.d.now c.requires c.args.processor yes c)
+    subst (λ (o : ℕ). o / (p c) % (q c) < (q c)) (sym (number c))
+    (row_below c.args.x c.args.b.now c.args.c.now c.args.d.now c.requires c.args.processor (yes c))
 
-plane-lt : (c : After-natural-o) → c.natural-o.result / p c / q c < c.args.x.third.layout.processors
+plane-lt : (c : After-natural-o) → c.natural-o.result / (p c) / (q c) < c.args.x.third.layout.processors
 plane-lt c =
-    subst (λ (o : ℕ). o / p c / q c < c.args.x.third.layout.processors) (sym number c)
-    (plane-below c.args.x c.args.b.now c.args.c.now c.args.d.now c.requires c.args.processor yes c)
+    subst (λ (o : ℕ). o / (p c) / (q c) < c.args.x.third.layout.processors) (sym (number c))
+    (plane-below c.args.x c.args.b.now c.args.c.now c.args.d.now c.requires c.args.processor (yes c))
 
 pub held_by-near-requires : goal.held_by-near-requires
 held_by-near-requires c = (c.requires.first, near-lt (goal.at.held_by-near-requires c).After-natural-o)
@@ -70,21 +71,21 @@ pub held_by-plane-requires : goal.held_by-plane-requires
 held_by-plane-requires c = (c.requires.third, plane-lt (goal.at.held_by-plane-requires c).After-natural-o)
 
 -- what the coordinates have
-o : (c : After-held_by-plane) → ℕ
+abbrev o : (c : After-held_by-plane) → ℕ
 o c =
     nat c.args.processor
 
-near : (c : After-held_by-plane) → c.held_by-near.result ≡ held_by c.args.x.first c.args.b.now (o c % p c.before.before.before)
+near : (c : After-held_by-plane) → c.held_by-near.result ≡ held_by c.args.x.first c.args.b.now ((o c) % (c.args.x.first.layout.processors))
 near c =
-    c.held_by-near.ensures.value ∙ ap (λ (i : ℕ). held_by c.args.x.first c.args.b.now (i % p c.before.before.before)) (number c.before.before.before)
+    c.held_by-near.ensures.value ∙ ap (λ (i : ℕ). held_by c.args.x.first c.args.b.now (i % (c.args.x.first.layout.processors))) ((read_of w64 nat c.args.processor c.ranges.processor c.natural-o.ensures))
 
-row : (c : After-held_by-plane) → c.held_by-row.result ≡ held_by c.args.x.second c.args.c.now (o c / p c.before.before.before % q c.before.before.before)
+row : (c : After-held_by-plane) → c.held_by-row.result ≡ held_by c.args.x.second c.args.c.now ((o c) / (c.args.x.first.layout.processors) % (c.args.x.second.layout.processors))
 row c =
-    c.held_by-row.ensures.value ∙ ap (λ (i : ℕ). held_by c.args.x.second c.args.c.now (i / p c.before.before.before % q c.before.before.before)) (number c.before.before.before)
+    c.held_by-row.ensures.value ∙ ap (λ (i : ℕ). held_by c.args.x.second c.args.c.now (i / (c.args.x.first.layout.processors) % (c.args.x.second.layout.processors))) ((read_of w64 nat c.args.processor c.ranges.processor c.natural-o.ensures))
 
-plane : (c : After-held_by-plane) → c.held_by-plane.result ≡ held_by c.args.x.third c.args.d.now (o c / p c.before.before.before / q c.before.before.before)
+plane : (c : After-held_by-plane) → c.held_by-plane.result ≡ held_by c.args.x.third c.args.d.now ((o c) / (c.args.x.first.layout.processors) / (c.args.x.second.layout.processors))
 plane c =
-    c.held_by-plane.ensures.value ∙ ap (λ (i : ℕ). held_by c.args.x.third c.args.d.now (i / p c.before.before.before / q c.before.before.before)) (number c.before.before.before)
+    c.held_by-plane.ensures.value ∙ ap (λ (i : ℕ). held_by c.args.x.third c.args.d.now (i / (c.args.x.first.layout.processors) / (c.args.x.second.layout.processors))) ((read_of w64 nat c.args.processor c.ranges.processor c.natural-o.ensures))
 
 pub found_among-requires : goal.found_among-requires
 found_among-requires c =

@@ -26,16 +26,16 @@ index : (c : After-element_in-i) → ℤ
 index c =
     c.args.x.lower +ℤ pos c.element_in-i.result.0
 
-sum : (c : After-element_in-i) → back w64 c.args.x.lower +ℤ to_z w64 c.element_in-i.result.0 ≡ index c
+sum : (c : After-element_in-i) → back w64 c.args.x.lower +ℤ to_z w64 c.element_in-i.result.0 ≡ (index c)
 unfolding index
 sum c =
-    λ i. bound-read c.args.x.lower c.requires.0.ranged.1 i +ℤ to_z_pos w64 c.element_in-i.result.0 (omega (arith, low c)) i
+    λ i. bound-read c.args.x.lower c.requires.0.ranged.1 i +ℤ to_z_pos w64 c.element_in-i.result.0 (omega (arith, (low c))) i
 
-index-fits : (c : After-element_in-i) → SFits w64 index c
+index-fits : (c : After-element_in-i) → SFits w64 (index c)
 unfolding index
 index-fits c =
-    small-fits w64 index c
-    (omega (arith, low c, size-add c.args.x.lower (pos c.element_in-i.result.0), c.requires.0.ranged.1))
+    small-fits w64 (index c)
+    (omega (arith, (low c), size-add c.args.x.lower (pos c.element_in-i.result.0), c.requires.0.ranged.1))
 
 pub overflow_cast-result : goal.overflow_cast-result
 overflow_cast-result c = small-fits w64 (pos c.element_in-i.result.0) (omega (arith, low (goal.at.overflow_cast-result c).After-element_in-i))

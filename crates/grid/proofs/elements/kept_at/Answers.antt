@@ -22,52 +22,54 @@ use Rattle.grid.proofs.DimensionLaws.{dealt, held-here, index_below}
 use Rattle.grid.proofs.elements.kept_at.Goals as goal
 use Rattle.grid.proofs.elements.kept_at.Goals.{After-home_of-home, After-natural, After-struct_told-2-1}
 
-x : (c : After-struct_told-2-1) → Dimension
+abbrev x : (c : After-struct_told-2-1) → Dimension
 x c =
     c.args.x
 
-array : (c : After-struct_told-2-1) → Array
+abbrev array : (c : After-struct_told-2-1) → Array
 array c =
-    array_in x c.args.sizes.now
+    array_in (x c) c.args.sizes.now
 
 -- the index from 0
-from : (c : After-struct_told-2-1) → ℤ
+abbrev from : (c : After-struct_told-2-1) → ℤ
 from c =
-    c.args.index.0 -ℤ x c.lower
+    c.args.index.0 -ℤ x.lower
 
-inside : (c : After-struct_told-2-1) → Below from c x c.layout.size
+inside : (c : After-struct_told-2-1) → Below (from c) x.layout.size
 inside c =
-    index_below x c.args.index.0 c.requires.index_value
+    index_below (x c) c.args.index.0 c.requires.index_value
 
-taken : (c : After-struct_told-2-1) → back w64 c.args.index.0 -ℤ back w64 x c.lower ≡ from c
+taken : (c : After-struct_told-2-1) → back w64 c.args.index.0 -ℤ back w64 x.lower ≡ (from c)
 taken c =
     let fits : SFits w64 c.args.index.0 = record { sfits = c.struct_told-1.given.0.1 } in
-    λ i. to_z-of_z w64 c.args.index.0 fits i -ℤ bound-read x c.lower c.requires.known.ranged.1 i
+    λ i. to_z-of_z w64 c.args.index.0 fits i -ℤ bound-read x.lower c.requires.known.ranged.1 i
 
-from-fits : (c : After-struct_told-2-1) → SFits w64 from c
+from-fits : (c : After-struct_told-2-1) → SFits w64 (from c)
 from-fits c =
-    small-fits w64 from (omega (arith, ap nat_abs inside c.whole, inside c.below, c.requires.known.ranged.0.size-high))
+    small-fits w64 (from c) (omega (arith, ap nat_abs inside.whole, inside.below, c.requires.known.ranged.0.size-high))
 
 pub overflow_sub-index : goal.overflow_sub-index
 overflow_sub-index c = fits-as w64 (taken (goal.at.overflow_sub-index c).After-struct_told-2-1) (from-fits (goal.at.overflow_sub-index c).After-struct_told-2-1)
 
-counted : (c : After-natural) → c.natural.result ≡ from_lower_in (x c.before) c.args.index.0
+counted : (c : After-natural) → c.natural.result ≡ from_lower_in ((c.args.x)) c.args.index.0
 counted c =
-    c.natural.ensures ∙ ap nat (back_as w64 (taken c.before) (from-fits c.before))
+    c.natural.ensures ∙ ap nat (back_as w64 ((let fits : SFits w64 c.args.index.0 = record { sfits = c.struct_told-1.given.0.1 } in
+    λ i. to_z-of_z w64 c.args.index.0 fits i -ℤ bound-read x.lower c.requires.known.ranged.1 i)) ((small-fits w64 (c.args.index.0 -ℤ x.lower) (omega (arith, ap nat_abs inside.whole, inside.below, c.requires.known.ranged.0.size-high)))))
 
-index-lt : (c : After-natural) → c.natural.result < (x c.before).layout.size
+index-lt : (c : After-natural) → c.natural.result < ((c.args.x)).layout.size
 index-lt c =
-    omega (arith, counted c, (inside c.before).below)
+    omega (arith, (counted c), ((index_below (c.args.x) c.args.index.0 c.requires.index_value)).below)
 
 pub home_of-home-requires : goal.home_of-home-requires
 home_of-home-requires c = (c.requires.known.listed, c.requires.known.ranged.0, index-lt (goal.at.home_of-home-requires c).After-natural)
 
-owner-dealt : (c : After-home_of-home) → Dealt (x c.before.before).layout c.home_of-home.result.processor
+owner-dealt : (c : After-home_of-home) → Dealt ((c.args.x)).layout c.home_of-home.result.processor
 owner-dealt c =
     record {
       sized = c.requires.known.ranged.0;
-      processor = subst (λ (q : ℕ). q < (x c.before.before).layout.processors) (sym c.home_of-home.ensures.0)
-          (dealt (x c.before.before) c.args.sizes.now c.requires.known c.natural.result (index-lt c.before));
+      processor = subst (λ (q : ℕ). q < ((c.args.x)).layout.processors) (sym c.home_of-home.ensures.0)
+          (dealt ((c.args.x)) c.args.sizes.now c.requires.known c.natural.result ((omega (arith, (c.natural.ensures ∙ ap nat (back_as w64 ((let fits : SFits w64 c.args.index.0 = record { sfits = c.struct_told-1.given.0.1 } in
+    λ i. to_z-of_z w64 c.args.index.0 fits i -ℤ bound-read x.lower c.requires.known.ranged.1 i)) ((small-fits w64 (c.args.index.0 -ℤ x.lower) (omega (arith, ap nat_abs inside.whole, inside.below, c.requires.known.ranged.0.size-high)))))), ((index_below (c.args.x) c.args.index.0 c.requires.index_value)).below))));
     }
 
 pub part_of-part-requires : goal.part_of-part-requires

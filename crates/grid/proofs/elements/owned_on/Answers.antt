@@ -11,11 +11,12 @@ use Rattle.grid.specs.Dimensions.{array_in}
 use Rattle.grid.specs.Answers.{numbered, has_index, from_lower_in, kept_in, ownership_on}
 use Rattle.grid.proofs.ThreeLaws.{number-high}
 use Rattle.grid.proofs.ElementLaws.{first-in, second-in, third-in, coordinates, some-held, address-high, owned-so}
+use mathlib.Core.Bool.{not}
 use Rattle.grid.proofs.elements.owned_on.Goals as goal
 use Rattle.grid.proofs.elements.owned_on.Goals.{After-are_indices, After-kept_at-plane, After-m-1}
 
 -- the answer to question 9
-asked : (c : After-are_indices) → c.are_indices.result ≡ tested c
+asked : (c : After-are_indices) → c.are_indices.result ≡ (has_index c.args.x.first c.args.first && has_index c.args.x.second c.args.second && has_index c.args.x.third c.args.third)
 asked c =
     let i = to_z-of_z w64 c.args.first c.ranges.first in
     let j = to_z-of_z w64 c.args.second c.ranges.second in
@@ -25,11 +26,15 @@ asked c =
 
 pub returns-then-not-are_indices : goal.returns-then-not-are_indices
 unfolding ownership_on
-returns-then-not-are_indices c = record { result_value = rw (sym (asked (goal.at.returns-then-not-are_indices c).After-are_indices) ∙ not-true _ c.if-not-are_indices.true); told_apart = (omega arith, tt) }
+returns-then-not-are_indices c = record { result_value = rw (sym (asked (goal.at.returns-then-not-are_indices c).After-are_indices) ∙ not-true _ (ap not c.if-not-are_indices.true)); told_apart = (omega arith, tt) }
 
-yes : (c : After-m-1) → tested c ≡ true
+yes : (c : After-m-1) → (has_index c.args.x.first c.args.first && has_index c.args.x.second c.args.second && has_index c.args.x.third c.args.third) ≡ true
 yes c =
-    sym (asked c.before.before.before.before) ∙ not-false _ c.if-not-are_indices.false
+    sym ((let i = to_z-of_z w64 c.args.first c.ranges.first in
+    let j = to_z-of_z w64 c.args.second c.ranges.second in
+    let k = to_z-of_z w64 c.args.third c.ranges.third in
+    c.are_indices.ensures
+    ∙ (λ t. has_index c.args.x.first (i t) && has_index c.args.x.second (j t) && has_index c.args.x.third (k t)))) ∙ not-false _ (ap not c.if-not-are_indices.false)
 
 pub kept_at-near-requires : goal.kept_at-near-requires
 kept_at-near-requires c =
@@ -72,19 +77,13 @@ numbered-requires c =
 
 pub numbered-requires-2 : goal.numbered-requires-2
 numbered-requires-2 c =
-    let s = begun c in
-    let a = s.args in
     rw (near (goal.at.numbered-requires-2 c).After-kept_at-plane, row (goal.at.numbered-requires-2 c).After-kept_at-plane, plane (goal.at.numbered-requires-2 c).After-kept_at-plane) (
-      some-held a.x a.b.now a.c.now a.d.now s.pre a.first a.second a.third (yes (goal.at.numbered-requires-2 c).After-m-1),
-      address-high a.x a.b.now a.c.now a.d.now s.pre a.first a.second a.third (yes (goal.at.numbered-requires-2 c).After-m-1),
+      some-held c.args.x c.args.b.now c.args.c.now c.args.d.now c.requires c.args.first c.args.second c.args.third (yes (goal.at.numbered-requires-2 c).After-m-1),
+      address-high c.args.x c.args.b.now c.args.c.now c.args.d.now c.requires c.args.first c.args.second c.args.third (yes (goal.at.numbered-requires-2 c).After-m-1),
     )
 
 pub returns : goal.returns
 returns c =
-    let s = begun c in
-    let a = s.args in
-    let p = a.x.first.layout.processors in
-    let q = a.x.second.layout.processors in
-    let owner = c.numbered.ensures ∙ (λ t. numbered (near (goal.at.returns c).After-kept_at-plane t).processor p (row (goal.at.returns c).After-kept_at-plane t).processor q (plane (goal.at.returns c).After-kept_at-plane t).processor) in
+    let owner = c.numbered.ensures ∙ (λ t. numbered (near (goal.at.returns c).After-kept_at-plane t).processor c.args.x.first.layout.processors (row (goal.at.returns c).After-kept_at-plane t).processor c.args.x.second.layout.processors (plane (goal.at.returns c).After-kept_at-plane t).processor) in
     let address = c.numbered-2.ensures ∙ (λ t. numbered (near (goal.at.returns c).After-kept_at-plane t).address.0 (near (goal.at.returns c).After-kept_at-plane t).elements (row (goal.at.returns c).After-kept_at-plane t).address.0 (row (goal.at.returns c).After-kept_at-plane t).elements (plane (goal.at.returns c).After-kept_at-plane t).address.0) in record { result_value = (λ t. record { refusal = 0; processor = owner t; address = address t })
-          ∙ owned-so a.x a.b.now a.c.now a.d.now s.pre a.first a.second a.third (yes (goal.at.returns c).After-m-1); told_apart = tt }
+          ∙ owned-so c.args.x c.args.b.now c.args.c.now c.args.d.now c.requires c.args.first c.args.second c.args.third (yes (goal.at.returns c).After-m-1); told_apart = tt }

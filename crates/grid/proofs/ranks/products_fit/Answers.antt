@@ -17,17 +17,17 @@ processors-of-two c =
 
 processors-of-three : (c : Start) → c.args.a.processors * (c.args.b.processors * c.args.c.processors) ≤ 1073741824
 processors-of-three c =
-    product_le 1024 1048576 c.requires.processors_bound.0 processors-of-two c
+    product_le 1024 1048576 c.requires.processors_bound.0 (processors-of-two c)
 
 sizes-of-two : (c : Start) → c.args.b.size * c.args.c.size ≤ 4611686014132420609
 sizes-of-two c =
     product_le 2147483647 2147483647 c.requires.size_bound.1 c.requires.size_bound.2
 
-processors : (c : Start) → ℕ
+abbrev processors : (c : Start) → ℕ
 processors c =
     c.args.a.processors * (c.args.b.processors * c.args.c.processors)
 
-sizes : (c : Start) → ℕ
+abbrev sizes : (c : Start) → ℕ
 sizes c =
     c.args.a.size * (c.args.b.size * c.args.c.size)
 

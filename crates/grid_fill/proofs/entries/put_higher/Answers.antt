@@ -75,22 +75,20 @@ loop-i-smaller c = omega (arith, c.loop-i-test.true)
 
 pub loop-i-preserved : goal.loop-i-preserved
 loop-i-preserved c =
-    let s = start c in
-    let l₀ = s.args.list.now in
-    let read : c.word_at-x.result ≡ get_or (words_of 4 l₀) (s.args.from + c.loop-i.i) 0 = c.word_at-x.ensures ∙ c.loop-i.invariant.3 c.loop-i.i (omega arith) c.loop-i-test.true in
-    let x : ℕ = (get_or (words_of 4 l₀) (s.args.from + c.loop-i.i) 0 + s.args.add) % 4294967296 in
+    let read : c.word_at-x.result ≡ get_or (words_of 4 c.args.list.now) (c.args.from + c.loop-i.i) 0 = c.word_at-x.ensures ∙ c.loop-i.invariant.3 c.loop-i.i (omega arith) c.loop-i-test.true in
+    let x : ℕ = (get_or (words_of 4 c.args.list.now) (c.args.from + c.loop-i.i) 0 + c.args.add) % 4294967296 in
     let low : x < 4294967296 = mod-lt _ (omega arith) in
-    let is : c.put_entry.new.0 ≡ store_entry c.loop-i.list (s.args.to + c.loop-i.i) x =
-    c.put_entry.ensures ∙ ap (λ (z : ℕ). store_entry c.loop-i.list (s.args.to + c.loop-i.i) ((z + s.args.add) % 4294967296)) read in (
+    let is : c.put_entry.new.0 ≡ store_entry c.loop-i.list (c.args.to + c.loop-i.i) x =
+    c.put_entry.ensures ∙ ap (λ (z : ℕ). store_entry c.loop-i.list (c.args.to + c.loop-i.i) ((z + c.args.add) % 4294967296)) read in (
       omega (arith, c.loop-i-test.true),
-      ap length is ∙ store_length 4 (4 * (s.args.to + c.loop-i.i)) x c.loop-i.list ∙ c.loop-i.invariant.1,
-      ap (λ (z : List ℕ). store_entries z (s.args.to + (c.loop-i.i + 1)) (left l₀ s.args.from s.args.n s.args.add (c.loop-i.i + 1))) is
-          ∙ on l₀ c.loop-i.list s.args.from s.args.to s.args.n s.args.add c.loop-i.i c.loop-i-test.true (omega (arith, (reads (goal.at.loop-i-preserved c).In-loop-i).0, c.loop-i.invariant.1))
+      ap length is ∙ store_length 4 (4 * (c.args.to + c.loop-i.i)) x c.loop-i.list ∙ c.loop-i.invariant.1,
+      ap (λ (z : List ℕ). store_entries z (c.args.to + (c.loop-i.i + 1)) (left c.args.list.now c.args.from c.args.n c.args.add (c.loop-i.i + 1))) is
+          ∙ on c.args.list.now c.loop-i.list c.args.from c.args.to c.args.n c.args.add c.loop-i.i c.loop-i-test.true (omega (arith, (reads (goal.at.loop-i-preserved c).In-loop-i).0, c.loop-i.invariant.1))
           ∙ c.loop-i.invariant.2,
       λ j h k.
-          ap (λ (z : List ℕ). get_or (words_of 4 z) (s.args.from + j) 0) is
-          ∙ ap (λ (z : List ℕ). get_or z (s.args.from + j) 0) (words-store 4 (s.args.to + c.loop-i.i) x c.loop-i.list (omega (arith, (reads (goal.at.loop-i-preserved c).In-loop-i).1, c.loop-i-test.true)) low)
-          ∙ get_or-set_other (words_of 4 c.loop-i.list) (s.args.to + c.loop-i.i) (s.args.from + j) x 0 (other s.args.from s.args.to s.args.n c.loop-i.i j s.pre.1 (omega arith) k)
+          ap (λ (z : List ℕ). get_or (words_of 4 z) (c.args.from + j) 0) is
+          ∙ ap (λ (z : List ℕ). get_or z (c.args.from + j) 0) (words-store 4 (c.args.to + c.loop-i.i) x c.loop-i.list (omega (arith, (reads (goal.at.loop-i-preserved c).In-loop-i).1, c.loop-i-test.true)) low)
+          ∙ get_or-set_other (words_of 4 c.loop-i.list) (c.args.to + c.loop-i.i) (c.args.from + j) x 0 (other c.args.from c.args.to c.args.n c.loop-i.i j c.requires.1 (omega arith) k)
           ∙ c.loop-i.invariant.3 j (omega arith) k,
     )
 

@@ -28,7 +28,6 @@ here c =
 
 pub next_turn-t-requires : goal.next_turn-t-requires
 next_turn-t-requires c =
-    let l = at c in
     record {
       begun = record {
         source = c.requires.source;
@@ -37,7 +36,7 @@ next_turn-t-requires c =
         going = omega (arith, c.if-count-at.false);
         least = c.if-quota-paid-lt-LEAST_TRIES.false;
         most = omega (arith, c.requires.most);
-        room = omega (arith, c.loop-n-test.true, l.loop.inv.1);
+        room = omega (arith, c.loop-n-test.true, c.loop-n.inv.1);
       };
       known = (here (goal.at.next_turn-t-requires c).Else-quota-paid-lt-LEAST_TRIES).known;
     }
@@ -45,7 +44,7 @@ next_turn-t-requires c =
 -- what the turn gives
 turned : (c : After-next_turn-t) → Turned c.requires.source c.args.p c.loop-n.at (c.args.quota - c.loop-n.paid) c.loop-n.n c.loop-n.list c.next_turn-t.new.1.1.1.1.0 c.next_turn-t.result
 turned c =
-    c.next_turn-t.ensures c.requires.source c.requires.planned (here c.before.before).stands (here c.before.before).known
+    c.next_turn-t.ensures c.requires.source c.requires.planned ((c.loop-n.inv.3 c.requires.source c.requires.planned c.requires.stands)).stands ((c.loop-n.inv.3 c.requires.source c.requires.planned c.requires.stands)).known
 
 pub overflow_add-paid : goal.overflow_add-paid
 overflow_add-paid c = omega (arith, (turned (goal.at.overflow_add-paid c).After-next_turn-t).tries, (at c).loop.inv.2, (s c).pre.most)
@@ -58,14 +57,13 @@ loop-n-smaller c = omega (arith, (turned (goal.at.loop-n-smaller c).After-next_t
 
 pub loop-n-preserved : goal.loop-n-preserved
 loop-n-preserved c =
-    let l = at c in
-    let b = s c in (
-      omega (arith, (turned (goal.at.loop-n-preserved c).After-next_turn-t).room, l.loop.inv.1),
-      ap length (turned (goal.at.loop-n-preserved c).After-next_turn-t).stored ∙ stores-length l.loop.list l.loop.n _ ∙ l.loop.inv.1,
-      omega (arith, (turned (goal.at.loop-n-preserved c).After-next_turn-t).tries, l.loop.inv.2),
+    (
+      omega (arith, (turned (goal.at.loop-n-preserved c).After-next_turn-t).room, c.loop-n.inv.1),
+      ap length (turned (goal.at.loop-n-preserved c).After-next_turn-t).stored ∙ stores-length c.loop-n.list c.loop-n.n _ ∙ c.loop-n.inv.1,
+      omega (arith, (turned (goal.at.loop-n-preserved c).After-next_turn-t).tries, c.loop-n.inv.2),
       λ x o st.
-          let f = l.loop.inv.3 x o st in
-          filling-turns x b.args.p o b.args.start b.args.quota b.args.list.now f (omega (arith, l.loop.inv.0, l.loop.inv.1)) _ _
+          let f = c.loop-n.inv.3 x o st in
+          filling-turns x c.args.p o c.args.start c.args.quota c.args.list.now f (omega (arith, c.loop-n.inv.0, c.loop-n.inv.1)) _ _
           (c.next_turn-t.ensures x o f.stands f.known),
     )
 
@@ -74,24 +72,21 @@ shape_of-list-after-loop-n c = c.loop-n.invariant.1
 
 pub returns-after-loop-n : goal.returns-after-loop-n
 returns-after-loop-n c =
-    let b = start c in
     let f = c.loop-n.invariant.3 x o st in
-    (f.stands, ends-full x b.args.p o b.args.start b.args.quota b.args.list.now f _ refl refl refl (omega (arith, c.loop-n-test.false, c.loop-n.invariant.1)))
+    (f.stands, ends-full x c.args.p o c.args.start c.args.quota c.args.list.now f _ refl refl refl (omega (arith, c.loop-n-test.false, c.loop-n.invariant.1)))
 
 pub shape_of-list-then-count-at : goal.shape_of-list-then-count-at
 shape_of-list-then-count-at c = c.loop-n.invariant.1
 
 pub returns-then-count-at : goal.returns-then-count-at
 returns-then-count-at c =
-    let b = start c in
     let f = c.loop-n.invariant.3 x o st in
-    (f.stands, ends-count x b.args.p o b.args.start b.args.quota b.args.list.now f _ refl refl refl c.if-count-at.true)
+    (f.stands, ends-count x c.args.p o c.args.start c.args.quota c.args.list.now f _ refl refl refl c.if-count-at.true)
 
 pub shape_of-list-then-quota-paid-lt-LEAST_TRIES : goal.shape_of-list-then-quota-paid-lt-LEAST_TRIES
 shape_of-list-then-quota-paid-lt-LEAST_TRIES c = c.loop-n.invariant.1
 
 pub returns-then-quota-paid-lt-LEAST_TRIES : goal.returns-then-quota-paid-lt-LEAST_TRIES
 returns-then-quota-paid-lt-LEAST_TRIES c =
-    let b = start c in
     let f = c.loop-n.invariant.3 x o st in
-    (f.stands, ends-quota x b.args.p o b.args.start b.args.quota b.args.list.now f _ refl refl refl c.if-quota-paid-lt-LEAST_TRIES.true)
+    (f.stands, ends-quota x c.args.p o c.args.start c.args.quota c.args.list.now f _ refl refl refl c.if-quota-paid-lt-LEAST_TRIES.true)

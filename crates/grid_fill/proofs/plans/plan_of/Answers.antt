@@ -8,29 +8,29 @@ use Rattle.grid_fill.proofs.PlanLaws.{held-few, accepted, fitted, first-is}
 use Rattle.grid_fill.proofs.plans.plan_of.Goals as goal
 use Rattle.grid_fill.proofs.plans.plan_of.Goals.{Start}
 
-source : (c : Start) → GridSection
+abbrev source : (c : Start) → GridSection
 source c =
     c.requires.source
 
 first-accepted : (c : Start) → Accepted c.args.s.first
 first-accepted c =
-    accepted (sections_of source c).first (first-yes source c.requires.shares.accepted) c.args.s.first c.requires.shares.first
+    accepted (sections_of (source c)).first (first-yes (source c) c.requires.shares.accepted) c.args.s.first c.requires.shares.first
 
 second-accepted : (c : Start) → Accepted c.args.s.second
 second-accepted c =
-    accepted (sections_of source c).second (second-yes source c.requires.shares.accepted) c.args.s.second c.requires.shares.second
+    accepted (sections_of (source c)).second (second-yes (source c) c.requires.shares.accepted) c.args.s.second c.requires.shares.second
 
 third-accepted : (c : Start) → Accepted c.args.s.third
 third-accepted c =
-    accepted (sections_of source c).third (third-yes source c.requires.shares.accepted) c.args.s.third c.requires.shares.third
+    accepted (sections_of (source c)).third (third-yes (source c) c.requires.shares.accepted) c.args.s.third c.requires.shares.third
 
 first-fitted : (c : Start) → Fitted c.args.s.first
 first-fitted c =
-    fitted (sections_of source c).first (first-yes source c.requires.shares.accepted) c.args.s.first c.requires.shares.first
+    fitted (sections_of (source c)).first (first-yes (source c) c.requires.shares.accepted) c.args.s.first c.requires.shares.first
 
 second-fitted : (c : Start) → Fitted c.args.s.second
 second-fitted c =
-    fitted (sections_of source c).second (second-yes source c.requires.shares.accepted) c.args.s.second c.requires.shares.second
+    fitted (sections_of (source c)).second (second-yes (source c) c.requires.shares.accepted) c.args.s.second c.requires.shares.second
 
 pub first_of-enter-requires : goal.first_of-enter-requires
 first_of-enter-requires c = first-fitted (goal.at.first_of-enter-requires c).Start

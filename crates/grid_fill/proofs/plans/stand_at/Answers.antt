@@ -13,33 +13,33 @@ pub product_of-requires : goal.product_of-requires
 product_of-requires c = counts-low c.requires.source c.args.p c.requires.planned
 
 -- a position
-p : (c : Then-place-product_of) → RowPlan
+abbrev p : (c : Then-place-product_of) → RowPlan
 p c =
     c.args.p
 
-t : (c : Then-place-product_of) → ℕ
+abbrev t : (c : Then-place-product_of) → ℕ
 t c =
     c.args.place.0
 
-m : (c : Then-place-product_of) → ℕ
+abbrev m : (c : Then-place-product_of) → ℕ
 m c =
-    p c.first.section.count
+    p.first.section.count
 
-n : (c : Then-place-product_of) → ℕ
+abbrev n : (c : Then-place-product_of) → ℕ
 n c =
-    p c.second.section.count
+    p.second.section.count
 
-inside : (c : Then-place-product_of) → t c < positions_in (shares_from p c)
+inside : (c : Then-place-product_of) → (t c) < positions_in (shares_from (p c))
 inside c =
     omega (arith, c.if-place-product_of.true, c.product_of.ensures)
 
-first_some : (c : Then-place-product_of) → 0 < m c
+first_some : (c : Then-place-product_of) → 0 < (m c)
 first_some c =
-    omega (arith, first-lt m c _ t c inside c)
+    omega (arith, first-lt (m c) _ (t c) (inside c))
 
-second-some : (c : Then-place-product_of) → 0 < n c
+second-some : (c : Then-place-product_of) → 0 < (n c)
 second-some c =
-    omega (arith, first-lt n c _ (t c / m c) (second_lt m c _ t c inside c))
+    omega (arith, first-lt (n c) _ ((t c) / (m c)) (second_lt (m c) _ (t c) (inside c)))
 
 pub nonzero_div-row : goal.nonzero_div-row
 nonzero_div-row c = first_some (goal.at.nonzero_div-row c).Then-place-product_of

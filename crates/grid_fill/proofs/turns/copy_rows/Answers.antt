@@ -22,38 +22,37 @@ pub addresses_from-r-requires : goal.addresses_from-r-requires
 addresses_from-r-requires c = (second-placed c.requires.begun.0, c.requires.begun.0.planned.second_way)
 
 -- ---- the rows
-begun : (c : After-addresses_from-r) → Begun c.args.p c.args.at (length c.args.list.now) 3 c.args.n
+abbrev begun : (c : After-addresses_from-r) → Begun c.args.p c.args.at (length c.args.list.now) 3 c.args.n
 begun c =
     c.requires.begun.0
 
-copying : (c : After-addresses_from-r) → Copying c.args.p c.args.at c.args.w (length c.args.rows.now / 4) (length c.args.list.now) c.args.n
+abbrev copying : (c : After-addresses_from-r) → Copying c.args.p c.args.at c.args.w (length c.args.rows.now / 4) (length c.args.list.now) c.args.n
 copying c =
     c.requires.copying
 
 -- the list of their addresses
-listed : (c : After-addresses_from-r) → List ℕ
+abbrev listed : (c : After-addresses_from-r) → List ℕ
 listed c =
     c.addresses_from-r.last.1.1.1.0
 
-count : (c : After-addresses_from-r) → ℕ
+abbrev count : (c : After-addresses_from-r) → ℕ
 count c =
     c.addresses_from-r.result.entries
 
-few : (c : After-addresses_from-r) → count c ≤ length c.args.rows.now / 4
+few : (c : After-addresses_from-r) → (count c) ≤ length c.args.rows.now / 4
 few c =
-    let b = begun c in
+    let b = (begun c) in
     few-rows b.source c.args.p b.planned c.args.at b.stands (going-in b b.source b.planned) c.args.plane c.requires.begun.1 _ _ _ c.addresses_from-r.ensures
 
-bounds : (c : After-addresses_from-r) → (count c * c.args.w.entries ≤ length c.args.list.now / 4) × (count c * c.args.w.tries ≤ 1000000)
-    × (c.args.n + count c * c.args.w.entries ≤ length c.args.list.now / 4)
+bounds : (c : After-addresses_from-r) → ((count c) * c.args.w.entries ≤ length c.args.list.now / 4) × ((count c) * c.args.w.tries ≤ 1000000)
+    × (c.args.n + (count c) * c.args.w.entries ≤ length c.args.list.now / 4)
 bounds c =
-    let e = mul-le-mul_right c.args.w.entries few c in
-    let c = mul-le-mul_right c.args.w.tries few c in
-    (omega (arith, e, copying c.room), omega (arith, c, copying c.tries), omega (arith, e, copying c.room))
+    let e = mul-le-mul_right c.args.w.entries (few c) in
+    let c = mul-le-mul_right c.args.w.tries (few c) in
+    (omega (arith, e, copying.room), omega (arith, c, copying.tries), omega (arith, e, copying.room))
 
 pub put_rows-requires : goal.put_rows-requires
 put_rows-requires c =
-    let s = start c in
     let b = begun (goal.at.put_rows-requires c).After-addresses_from-r in
     let x = b.source in
     let o = b.planned in
@@ -62,16 +61,16 @@ put_rows-requires c =
       some = (copying (goal.at.put_rows-requires c).After-addresses_from-r).entries;
       before = (copying (goal.at.put_rows-requires c).After-addresses_from-r).before;
       base = (copying (goal.at.put_rows-requires c).After-addresses_from-r).base;
-      listed = rw (rows_long x s.args.p o s.args.at b.stands v s.args.plane s.pre.0.1 _ _ _ c.addresses_from-r.ensures) (few (goal.at.put_rows-requires c).After-addresses_from-r);
+      listed = rw (rows_long x c.args.p o c.args.at b.stands v c.args.plane c.requires.begun.1 _ _ _ c.addresses_from-r.ensures) (few (goal.at.put_rows-requires c).After-addresses_from-r);
       room = (bounds (goal.at.put_rows-requires c).After-addresses_from-r).2;
       few-rows = o.few;
-      plane-low = step-low (sections_of x).third (third-yes x o.accepted) s.args.p.third o.third s.args.at.third.0 (b.stands.third v) s.args.plane s.pre.0.1;
+      plane-low = step-low (sections_of x).third (third-yes x o.accepted) c.args.p.third o.third c.args.at.third.0 (b.stands.third v) c.args.plane c.requires.begun.1;
       low = λ j h.
-          let on = row_on x s.args.p o s.args.at b.stands v s.args.plane s.pre.0.1 _ _ _ c.addresses_from-r.ensures j h in
+          let on = row_on x c.args.p o c.args.at b.stands v c.args.plane c.requires.begun.1 _ _ _ c.addresses_from-r.ensures j h in
           omega (
             arith,
-            row-base x s.args.p o s.args.at b.stands v s.args.plane s.pre.0.1 _ _ _ c.addresses_from-r.ensures j h,
-            base-low x s.args.p o _ s.args.at.third.0 on (b.stands.third v) s.args.at.first.0 (b.stands.first v),
+            row-base x c.args.p o c.args.at b.stands v c.args.plane c.requires.begun.1 _ _ _ c.addresses_from-r.ensures j h,
+            base-low x c.args.p o _ c.args.at.third.0 on (b.stands.third v) c.args.at.first.0 (b.stands.first v),
           );
     }
 
@@ -83,18 +82,14 @@ OLD-overflow-mul-t25 c = omega (arith, (bounds (goal.at.OLD-overflow-mul-t25 c).
 
 pub returns : goal.returns
 returns c =
-    let s = start c in
-    let p = s.args.p in
-    let at = s.args.at in
     let b = begun (goal.at.returns c).After-addresses_from-r in
     let v = going-in b x o in
-    let w = s.args.w in
-    let in-planes = (s.pre.0.1 (sections_of x).third (third-yes x o.accepted) o.third.share).1 in
-    let place = row-place x p o at st v s.args.plane s.pre.0.1 _ _ _ c.addresses_from-r.ensures in
-    let turn : Turn = record { stand = c.entering.result; whole = w; entries = count (goal.at.returns c).After-addresses_from-r * w.entries; tries = count (goal.at.returns c).After-addresses_from-r * w.tries } in
-    subst (λ (l : List ℕ). Turned x p at quota s.args.n s.args.list.now l turn) (sym c.put_rows.ensures)
-    (after-turned x p o at st v (copying (goal.at.returns c).After-addresses_from-r).enters s.args.plane.next.0 in-planes s.args.list.now s.args.n w known quota (count (goal.at.returns c).After-addresses_from-r)
-    (omega (arith, fits, mul-le-mul_right w.tries (few (goal.at.returns c).After-addresses_from-r))) (bounds (goal.at.returns c).After-addresses_from-r).2 (base_at p.elements p.rows s.args.plane.address.0 (listed (goal.at.returns c).After-addresses_from-r))
-    (row_on x p o at st v s.args.plane s.pre.0.1 _ _ _ c.addresses_from-r.ensures) (row-base x p o at st v s.args.plane s.pre.0.1 _ _ _ c.addresses_from-r.ensures)
-    (some-rows x p o at st v s.args.plane s.pre.0.1 _ _ _ c.addresses_from-r.ensures (copying (goal.at.returns c).After-addresses_from-r).some) (copying (goal.at.returns c).After-addresses_from-r).entries turn
-    (c.entering.ensures ∙ ap (λ (u : ℕ). entering_at p u at.third.0 s.args.plane.next.0) place) refl refl refl)
+    let in-planes = (c.requires.begun.1 (sections_of x).third (third-yes x o.accepted) o.third.share).1 in
+    let place = row-place x c.args.p o c.args.at st v c.args.plane c.requires.begun.1 _ _ _ c.addresses_from-r.ensures in
+    let turn : Turn = record { stand = c.entering.result; whole = c.args.w; entries = count (goal.at.returns c).After-addresses_from-r * c.args.w.entries; tries = count (goal.at.returns c).After-addresses_from-r * c.args.w.tries } in
+    subst (λ (l : List ℕ). Turned x c.args.p c.args.at quota c.args.n c.args.list.now l turn) (sym c.put_rows.ensures)
+    (after-turned x c.args.p o c.args.at st v (copying (goal.at.returns c).After-addresses_from-r).enters c.args.plane.next.0 in-planes c.args.list.now c.args.n c.args.w known quota (count (goal.at.returns c).After-addresses_from-r)
+    (omega (arith, fits, mul-le-mul_right c.args.w.tries (few (goal.at.returns c).After-addresses_from-r))) (bounds (goal.at.returns c).After-addresses_from-r).2 (base_at c.args.p.elements c.args.p.rows c.args.plane.address.0 (listed (goal.at.returns c).After-addresses_from-r))
+    (row_on x c.args.p o c.args.at st v c.args.plane c.requires.begun.1 _ _ _ c.addresses_from-r.ensures) (row-base x c.args.p o c.args.at st v c.args.plane c.requires.begun.1 _ _ _ c.addresses_from-r.ensures)
+    (some-rows x c.args.p o c.args.at st v c.args.plane c.requires.begun.1 _ _ _ c.addresses_from-r.ensures (copying (goal.at.returns c).After-addresses_from-r).some) (copying (goal.at.returns c).After-addresses_from-r).entries turn
+    (c.entering.ensures ∙ ap (λ (u : ℕ). entering_at c.args.p u c.args.at.third.0 c.args.plane.next.0) place) refl refl refl)

@@ -31,17 +31,17 @@ pub word_at-requires : goal.word_at-requires
 word_at-requires c = omega (arith, c.loop-j-test.true, c.requires.listed)
 
 -- ---- the base of a row
-base : (c : After-word_at) → ℕ
+abbrev base : (c : After-word_at) → ℕ
 base c =
     c.args.elements * (c.word_at.result + c.args.rows * c.args.plane.0)
 
-is : (c : After-word_at) → base c ≡ base_at c.args.elements c.args.rows c.args.plane.0 c.args.addresses.now c.loop-j.j
+is : (c : After-word_at) → (base c) ≡ base_at c.args.elements c.args.rows c.args.plane.0 c.args.addresses.now c.loop-j.j
 is c =
     ap (λ (z : ℕ). c.args.elements * (z + c.args.rows * c.args.plane.0)) c.word_at.ensures
 
-low : (c : After-word_at) → base c < 2147483648
+low : (c : After-word_at) → (base c) < 2147483648
 low c =
-    omega (arith, is c, c.requires.low c.loop-j.j c.loop-j-test.true)
+    omega (arith, (is c), c.requires.low c.loop-j.j c.loop-j-test.true)
 
 product : (c : After-word_at) → c.args.rows * c.args.plane.0 ≤ 4611686014132420609
 product c =

@@ -22,26 +22,26 @@ pub step_from-row-requires : goal.step_from-row-requires
 step_from-row-requires c = (second-placed c.requires.0, c.requires.0.planned.second_way)
 
 -- the numbers of the row's base
-begun : (c : After-step_from-row) → Begun c.args.p c.args.at (length c.args.list.now) c.args.quota c.args.n
+abbrev begun : (c : After-step_from-row) → Begun c.args.p c.args.at (length c.args.list.now) c.args.quota c.args.n
 begun c =
     c.requires.0
 
-base : (c : After-step_from-row) → ℕ
+abbrev base : (c : After-step_from-row) → ℕ
 base c =
     c.args.p.elements * (c.step_from-row.result.address.0 + c.args.p.rows * c.args.plane.address.0)
 
-is : (c : After-step_from-row) → (x : GridSection) (o : PlanOf c.args.p x) (st : Standing x c.args.p c.args.at) → base c ≡ height_of x c.args.p o c.args.at st (going-in begun c x o)
+is : (c : After-step_from-row) → (x : GridSection) (o : PlanOf c.args.p x) (st : Standing x c.args.p c.args.at) → (base c) ≡ height_of x c.args.p o c.args.at st (going-in (begun c) x o)
 is c x o st =
-    base-is x c.args.p o c.args.at st (going-in begun c x o) c.step_from-row.result c.args.plane c.step_from-row.ensures c.requires.1
+    base-is x c.args.p o c.args.at st (going-in (begun c) x o) c.step_from-row.result c.args.plane c.step_from-row.ensures c.requires.1
 
-low : (c : After-step_from-row) → base c < 2147483648
+low : (c : After-step_from-row) → (base c) < 2147483648
 low c =
-    let b = begun c in
-    omega (arith, is c b.source b.planned b.stands, height-low b.source c.args.p b.planned c.args.at b.stands (going-in b b.source b.planned))
+    let b = (begun c) in
+    omega (arith, (is c) b.source b.planned b.stands, height-low b.source c.args.p b.planned c.args.at b.stands (going-in b b.source b.planned))
 
 addresses : (c : After-step_from-row) → (c.step_from-row.result.address.0 ≤ 2147483647) × (c.args.plane.address.0 ≤ 2147483647)
 addresses c =
-    let b = begun c in
+    let b = (begun c) in
     let x = b.source in
     let o = b.planned in (
       step-low (sections_of x).second (second-yes x o.accepted) c.args.p.second o.second c.args.at.second.0 (b.stands.second (going-in b x o)) c.step_from-row.result c.step_from-row.ensures,
@@ -50,7 +50,7 @@ addresses c =
 
 product : (c : After-step_from-row) → c.args.p.rows * c.args.plane.address.0 ≤ 4611686014132420609
 product c =
-    small_product c.args.p.rows c.args.plane.address.0 begun c.planned.few addresses c.1
+    small_product c.args.p.rows c.args.plane.address.0 begun.planned.few addresses.1
 
 pub overflow_mul-base : goal.overflow_mul-base
 overflow_mul-base c = omega (arith, product (goal.at.overflow_mul-base c).After-step_from-row)
@@ -80,25 +80,23 @@ fill_row-r-requires c =
 
 pub returns : goal.returns
 returns c =
-    let r = stepped c in
-    let s = start r in
-    let b = begun r in
+    let b = begun (goal.at.returns c).After-step_from-row in
     let v = going-in b x o in
-    let e = is r x o st in
-    let next : ℕ = r.step_from.result.next.0 in
-    let up : ℕ = s.args.plane.next.0 in
-    let l : List ℕ = s.args.list.now in
-    let rest : List ℕ = drop (4 * s.args.n) l in
-    let k : ℕ = length l - 4 * s.args.n in
+    let e = is (goal.at.returns c).After-step_from-row x o st in
+    let next : ℕ = c.step_from-row.result.next.0 in
+    let up : ℕ = c.args.plane.next.0 in
+    let l : List ℕ = c.args.list.now in
+    let rest : List ℕ = drop (4 * c.args.n) l in
+    let k : ℕ = length l - 4 * c.args.n in
     let part : List ℕ = c.fill_row-r.new.1.1.1.1.1.0 in
-    let all : take k rest ≡ rest = take_all k rest (omega (arith, length-drop (4 * s.args.n) l)) in
-    let none : drop k rest ≡ [] = drop_of_length-le rest {i = k} (omega (arith, length-drop (4 * s.args.n) l)) in
+    let all : take k rest ≡ rest = take_all k rest (omega (arith, length-drop (4 * c.args.n) l)) in
+    let none : drop k rest ≡ [] = drop_of_length-le rest {i = k} (omega (arith, length-drop (4 * c.args.n) l)) in
     let filled = c.fill_row-r.ensures (sections_of x).first (first-yes x o.accepted) o.first.share in
-    subst (Turned x s.args.p s.args.at s.args.quota s.args.n l _)
-    (sym (c.turn_after.ensures ∙ ap (λ (z : ℕ). turn_after s.args.p s.args.at next up c.fill_row-r.result s.args.n z) e))
-    (row-turned x s.args.p o s.args.at st v s.args.quota s.args.n b.least l _ part c.fill_row-r.result b.room
-    (subst (λ (z : ℕ). ByteFilled (fill_by (on_base z (walk_on (axis_of (sections_of x).first))) s.args.at.first.0 s.args.quota (words_of 4 rest)) rest part c.fill_row-r.result) e
-    (subst (λ (z : List ℕ). ByteFilled (fill_by (on_base (base r) (walk_on (axis_of (sections_of x).first))) s.args.at.first.0 s.args.quota (words_of 4 z)) z part c.fill_row-r.result) all filled))
-    (ap (λ (z : List ℕ). take (4 * s.args.n) l ++ z) (ap (λ (z : List ℕ). part ++ z) none ∙ append-nil part)) next up
-    (r.step_from.ensures (sections_of x).second (second-yes x o.accepted) o.second.share).1
-    (s.pre.1 (sections_of x).third (third-yes x o.accepted) o.third.share).1)
+    subst (Turned x c.args.p c.args.at c.args.quota c.args.n l _)
+    (sym (c.turn_after.ensures ∙ ap (λ (z : ℕ). turn_after c.args.p c.args.at next up c.fill_row-r.result c.args.n z) e))
+    (row-turned x c.args.p o c.args.at st v c.args.quota c.args.n b.least l _ part c.fill_row-r.result b.room
+    (subst (λ (z : ℕ). ByteFilled (fill_by (on_base z (walk_on (axis_of (sections_of x).first))) c.args.at.first.0 c.args.quota (words_of 4 rest)) rest part c.fill_row-r.result) e
+    (subst (λ (z : List ℕ). ByteFilled (fill_by (on_base (base (goal.at.returns c).After-step_from-row) (walk_on (axis_of (sections_of x).first))) c.args.at.first.0 c.args.quota (words_of 4 z)) z part c.fill_row-r.result) all filled))
+    (ap (λ (z : List ℕ). take (4 * c.args.n) l ++ z) (ap (λ (z : List ℕ). part ++ z) none ∙ append-nil part)) next up
+    (c.step_from-row.ensures (sections_of x).second (second-yes x o.accepted) o.second.share).1
+    (c.requires.1 (sections_of x).third (third-yes x o.accepted) o.third.share).1)

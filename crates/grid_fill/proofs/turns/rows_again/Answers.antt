@@ -5,6 +5,7 @@ use mathlib.Core.Bool.{Bool, true, false, not}
 use native.Mathlib.Nat.{le_trans, mul-le-mul_right, div-mul-le_self}
 use native.Mathlib.Omega.{arith}
 use borrow.Author.Rules.{rules}
+use mathlib.Core.Path.{ap}
 use Rattle.grid_fill.proofs.turns.rows_again.Goals as goal
 
 -- r whole parts of e fit into n
@@ -29,5 +30,5 @@ returns c =
     (
       omega (arith, c.least-by_room.ensures.0, c.least.ensures.0),
       parts _ c.args.w.entries c.args.room (omega (arith, c.least-by_room.ensures.1, c.least.ensures.0)),
-      λ h. (not-false _ c.if-not-enters.false, omega (arith, c.if-w-eq0.false), omega (arith, c.requires, parts _ c.args.w.tries _ c.least.ensures.1)),
+      λ h. (not-false _ (ap not c.if-not-enters.false), omega (arith, c.if-w-eq0.false), omega (arith, c.requires, parts _ c.args.w.tries _ c.least.ensures.1)),
     )

@@ -16,75 +16,75 @@ use Rattle.grid_section.proofs.places.first_on.Goals as goal
 use Rattle.grid_section.proofs.places.first_on.Goals.{After-first_of-v, Then-v-o}
 
 -- the three first places that were found
-s : (c : After-first_of-v) → Shares
+abbrev s : (c : After-first_of-v) → Shares
 s c =
     c.args.s
 
-m : (c : After-first_of-v) → ℕ
+abbrev m : (c : After-first_of-v) → ℕ
 m c =
-    s c.first.section.count
+    s.first.section.count
 
-n : (c : After-first_of-v) → ℕ
+abbrev n : (c : After-first_of-v) → ℕ
 n c =
-    s c.second.section.count
+    s.second.section.count
 
-o : (c : After-first_of-v) → ℕ
+abbrev o : (c : After-first_of-v) → ℕ
 o c =
-    s c.third.section.count
+    s.third.section.count
 
-t : (c : After-first_of-v) → ℕ
+abbrev t : (c : After-first_of-v) → ℕ
 t c =
     c.first_of-t.result.0
 
-u : (c : After-first_of-v) → ℕ
+abbrev u : (c : After-first_of-v) → ℕ
 u c =
     c.first_of-u.result.0
 
-v : (c : After-first_of-v) → ℕ
+abbrev v : (c : After-first_of-v) → ℕ
 v c =
     c.first_of-v.result.0
 
 -- is there one in each dimension?
-passes : (c : After-first_of-v) → Bool
+abbrev passes : (c : After-first_of-v) → Bool
 passes c =
-    ltb t c m c && ltb u c n c && ltb v c o c
+    ltb (t c) (m c) && ltb (u c) (n c) && ltb (v c) (o c)
 
-found : (c : After-first_of-v) → Bool → ℕ
+abbrev found : (c : After-first_of-v) → Bool → ℕ
 found c all =
-    cond all (paired m c t (paired n c u c v c)) (positions_in s c)
+    cond all (paired (m c) (t c) (paired (n c) (u c) (v c))) (positions_in (s c))
 
-is-first : (c : After-first_of-v) → found c passes c ≡ first_by s c
+is-first : (c : After-first_of-v) → (found c) (passes c) ≡ first_by (s c)
 is-first c =
-    λ i. cond (ltb (c.first_of-t.ensures i) m c && ltb (c.first_of-u.ensures i) n c && ltb (c.first_of-v.ensures i) o c) (paired m (c.first_of-t.ensures i) (paired n (c.first_of-u.ensures i) (c.first_of-v.ensures i))) (positions_in s c)
+    λ i. cond (ltb (c.first_of-t.ensures i) (m c) && ltb (c.first_of-u.ensures i) (n c) && ltb (c.first_of-v.ensures i) (o c)) (paired (m c) (c.first_of-t.ensures i) (paired (n c) (c.first_of-u.ensures i) (c.first_of-v.ensures i))) (positions_in (s c))
 
 not_third : (b : Bool) → (b && false) ≡ false
 not_third true = refl
 not_third false = refl
 
 -- all three tests hold
-fitted : (c : Then-v-o) → AllFitted (s c.before.before.before.before.before.before)
+fitted : (c : Then-v-o) → AllFitted ((c.args.s))
 fitted c =
     c.requires
 
-first-lt : (c : Then-v-o) → t c.before.before.before.before.before.before < m c.before.before.before.before.before.before
+first-lt : (c : Then-v-o) → (c.first_of-t.result.0) < (s.first.section.count)
 first-lt c =
     c.else-t-m.true
 
-second_lt : (c : Then-v-o) → u c.before.before.before.before.before.before < n c.before.before.before.before.before.before
+second_lt : (c : Then-v-o) → (c.first_of-u.result.0) < (s.second.section.count)
 second_lt c =
     ltb-true _ _ c.if-u-n.true
 
-third-lt : (c : Then-v-o) → v c.before.before.before.before.before.before < o c.before.before.before.before.before.before
+third-lt : (c : Then-v-o) → (c.first_of-v.result.0) < (s.third.section.count)
 third-lt c =
     ltb-true _ _ c.if-v-o.true
 
-other-low : (c : Then-v-o) → u c.before.before.before.before.before.before + n c.before.before.before.before.before.before * v c.before.before.before.before.before.before ≤ 4611686014132420609
+other-low : (c : Then-v-o) → (c.first_of-u.result.0) + (s.second.section.count) * (c.first_of-v.result.0) ≤ 4611686014132420609
 other-low c =
-    omega (arith, rest_lt c fitted c first-lt c second_lt c third-lt c, rest-low c fitted c first-lt c second_lt c third-lt c)
+    omega (arith, rest_lt c (fitted c) (first-lt c) (second_lt c) (third-lt c), rest-low c (fitted c) (first-lt c) (second_lt c) (third-lt c))
 
-all-low : (c : Then-v-o) → t c.before.before.before.before.before.before + m c.before.before.before.before.before.before * (u c.before.before.before.before.before.before + n c.before.before.before.before.before.before * v c.before.before.before.before.before.before) < 2147483647
+all-low : (c : Then-v-o) → (c.first_of-t.result.0) + (s.first.section.count) * ((c.first_of-u.result.0) + (s.second.section.count) * (c.first_of-v.result.0)) < 2147483647
 all-low c =
-    place-low c fitted c first-lt c second_lt c third-lt c
+    place-low c (fitted c) (first-lt c) (second_lt c) (third-lt c)
 
 pub overflow_mul-result : goal.overflow_mul-result
 overflow_mul-result c = omega (arith, other-low (goal.at.overflow_mul-result c).Then-v-o)

@@ -19,7 +19,7 @@ pub returns-then-place-lt0 : goal.returns-then-place-lt0
 returns-then-place-lt0 c = rw (holds-le c.args.place (pos 0) (rw (to_z-of_z w64 c.args.place c.ranges.place) at c.if-place-lt0.true))
 
 -- a place that is not below 0, and the count
-place : (c : After-product_of-count) → ℕ
+abbrev place : (c : After-product_of-count) → ℕ
 place c =
     nat c.args.place
 
@@ -27,7 +27,7 @@ not-below : (c : After-product_of-count) → le_z (pos 0) c.args.place ≡ true
 not-below c =
     fails-le c.args.place (pos 0) (rw (to_z-of_z w64 c.args.place c.ranges.place) at c.if-place-lt0.false)
 
-place_is : (c : After-product_of-count) → c.natural-t.result ≡ place c
+place_is : (c : After-product_of-count) → c.natural-t.result ≡ (place c)
 place_is c =
     read_of w64 nat c.args.place c.ranges.place c.natural-t.ensures
 
@@ -45,8 +45,8 @@ returns-then-count-t c =
     rw (not-below (goal.at.returns-then-count-t c).After-product_of-count, ne_eqb (place (goal.at.returns-then-count-t c).After-product_of-count) n (λ e. omega arith), le-ltb (place (goal.at.returns-then-count-t c).After-product_of-count) n (omega arith))
 
 -- a position
-below : (c : Else-count-t) → place c.before.before < positions_in c.args.s
-below c = omega (arith, c.if-count-t.false, c.if-t-count.false, place_is c.before.before, count-is c.before.before)
+below : (c : Else-count-t) → (nat c.args.place) < positions_in c.args.s
+below c = omega (arith, c.if-count-t.false, c.if-t-count.false, (read_of w64 nat c.args.place c.ranges.place c.natural-t.ensures), (c.product_of-count.ensures))
 
 pub owns_on-requires : goal.owns_on-requires
 owns_on-requires c = (c.requires, omega (arith, below (goal.at.owns_on-requires c).Else-count-t, place_is (goal.at.owns_on-requires c).After-product_of-count))

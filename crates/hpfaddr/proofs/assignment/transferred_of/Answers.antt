@@ -16,11 +16,11 @@ use Rattle.hpfaddr.proofs.assignment.transferred_of.Goals.{After-transfers, Star
 read : (c : Start) → call_of
     (section_with c.args.left c.args.left_sizes.now) (section_with c.args.right c.args.right_sizes.now) (back w64 c.args.sender) (back w64 c.args.receiver)
     (lists_of c.args.positions.now c.args.sent.now c.args.received.now)
-    ≡ call c
+    ≡ (call_of (section_with c.args.left c.args.left_sizes.now) (section_with c.args.right c.args.right_sizes.now) c.args.sender c.args.receiver (lists_of c.args.positions.now c.args.sent.now c.args.received.now))
 read c = call-read c.args.sender c.args.receiver c.ranges.sender c.ranges.receiver refl refl _
 
 answer : (c : After-transfers) → transferred_as c.transfers.result ≡ transfers (call_of (section_with c.args.left c.args.left_sizes.now) (section_with c.args.right c.args.right_sizes.now) c.args.sender c.args.receiver (lists_of c.args.positions.now c.args.sent.now c.args.received.now))
-answer c = c.transfers.ensures.result_value ∙ ap transfers (read c.before.before.before.before.before.before.before.before.before)
+answer c = c.transfers.ensures.result_value ∙ ap transfers ((call-read c.args.sender c.args.receiver c.ranges.sender c.ranges.receiver refl refl _))
 
 pub fields_of-requires : goal.fields_of-requires
 fields_of-requires c = (with_size TransferredFits (answer (goal.at.fields_of-requires c).After-transfers) (transfers-small _)).1

@@ -19,27 +19,27 @@ use Rattle.hpfaddr.proofs.grid_sections.hpf_grid_fill.Goals as goal
 use Rattle.hpfaddr.proofs.grid_sections.hpf_grid_fill.Goals.{After-fill_into_bytes}
 
 -- a fill with the parameters' lists
-of : (c : After-fill_into_bytes) → grid_sections.GridSection → ℤ → ℤ → ℤ → GridByteFill
+abbrev of : (c : After-fill_into_bytes) → grid_sections.GridSection → ℤ → ℤ → ℤ → GridByteFill
 of c x q t z =
     grid_fill_of (grid_section_with x c.args.first_sizes.now c.args.second_sizes.now c.args.third_sizes.now) q t z
     c.args.list.now
 
 -- the call, of the parameters
-call : (c : After-fill_into_bytes) → GridByteFill
+abbrev call : (c : After-fill_into_bytes) → GridByteFill
 call c =
-    of (grid_section_numbers c.args.x) c.args.processor c.args.place c.args.quota
+    (of c) (grid_section_numbers c.args.x) c.args.processor c.args.place c.args.quota
 
 -- the call that was made
-read : (c : After-fill_into_bytes) → of c.grid_section_of-y.result (back w64 c.args.processor) (back w64 c.args.place) (back w64 c.args.quota) ≡ call c
+read : (c : After-fill_into_bytes) → (of c) c.grid_section_of-y.result (back w64 c.args.processor) (back w64 c.args.place) (back w64 c.args.quota) ≡ (call c)
 read c =
-    λ i. of (c.grid_section_of-y.ensures i)
+    λ i. (of c) (c.grid_section_of-y.ensures i)
     (to_z-of_z w64 c.args.processor c.ranges.processor i)
     (to_z-of_z w64 c.args.place c.ranges.place i)
     (to_z-of_z w64 c.args.quota c.ranges.quota i)
 
-report : (c : After-fill_into_bytes) → report_as c.fill_into_bytes.result ≡ report_of (grid_fill (in_words call c))
+report : (c : After-fill_into_bytes) → report_as c.fill_into_bytes.result ≡ report_of (grid_fill (in_words (call c)))
 report c =
-    c.fill_into_bytes.ensures.0 ∙ ap (λ (f : GridByteFill). report_of (grid_fill (in_words f))) read c
+    c.fill_into_bytes.ensures.0 ∙ ap (λ (f : GridByteFill). report_of (grid_fill (in_words f))) (read c)
 
 pub fields_of-requires : goal.fields_of-requires
 fields_of-requires c = (with_size FilledFits (report (goal.at.fields_of-requires c).After-fill_into_bytes) (grid-fill-small _)).1

@@ -21,19 +21,19 @@ module _ (z : ℤ) (h : Signed32 z) where
   small = small-fits w32 z (omega (arith, h))
 
 -- the indices of an element
-i : (c : In-At-2) → ℤ
+abbrev i : (c : In-At-2) → ℤ
 i c =
     c.in-At.i.0
 
-j : (c : In-At-2) → ℤ
+abbrev j : (c : In-At-2) → ℤ
 j c =
     c.in-At.j.0
 
-k : (c : In-At-2) → ℤ
+abbrev k : (c : In-At-2) → ℤ
 k c =
     c.in-At.k.0
 
-each : (c : In-At-2) → IndicesFit (indices_from i c j c k c)
+each : (c : In-At-2) → IndicesFit (indices_from (i c) (j c) (k c))
 each c =
     (subst GridFoundFits (ap found_as c.in-At.is) c.requires).1
 

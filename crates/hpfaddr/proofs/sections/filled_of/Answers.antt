@@ -15,11 +15,11 @@ use Rattle.hpfaddr.proofs.sections.filled_of.Goals as goal
 use Rattle.hpfaddr.proofs.sections.filled_of.Goals.{After-fill_into_bytes, Start}
 
 -- the call that was made
-read : (c : Start) → fill_of (section_with c.args.x c.args.sizes.now) (back w64 c.args.processor) (back w64 c.args.place) (back w64 c.args.quota) c.args.list.now ≡ call c
+read : (c : Start) → fill_of (section_with c.args.x c.args.sizes.now) (back w64 c.args.processor) (back w64 c.args.place) (back w64 c.args.quota) c.args.list.now ≡ (fill_of (section c) c.args.processor c.args.place c.args.quota c.args.list.now)
 read c = fill-read c.args.processor c.args.place c.args.quota c.ranges.processor c.ranges.place c.ranges.quota refl c.args.list.now
 
 answer : (c : After-fill_into_bytes) → report_as c.fill_into_bytes.result ≡ report_of (fill (in_words (fill_of (section c) c.args.processor c.args.place c.args.quota c.args.list.now)))
-answer c = c.fill_into_bytes.ensures.0 ∙ ap (λ (f : ByteFill). report_of (fill (in_words f))) (read c.before.before.before.before)
+answer c = c.fill_into_bytes.ensures.0 ∙ ap (λ (f : ByteFill). report_of (fill (in_words f))) ((fill-read c.args.processor c.args.place c.args.quota c.ranges.processor c.ranges.place c.ranges.quota refl c.args.list.now))
 
 pub fields_of-requires : goal.fields_of-requires
 fields_of-requires c = (with_size FilledFits (answer (goal.at.fields_of-requires c).After-fill_into_bytes) (fill-small _)).1

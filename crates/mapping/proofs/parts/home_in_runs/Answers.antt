@@ -34,21 +34,21 @@ pub owner_in-owner-requires : goal.owner_in-owner-requires
 owner_in-owner-requires c = (rw c.cell_of-c.ensures (in-a-run (goal.at.owner_in-owner-requires c).Start), omega (arith, (listed (goal.at.owner_in-owner-requires c).Start).long, c.requires.1.processors-high))
 
 -- the owner's run has the cell
-runs : (c : After-owner_in-owner) → List ℕ
+abbrev runs : (c : After-owner_in-owner) → List ℕ
 runs c =
     words_of 4 c.args.sizes.now
 
-cell : (c : After-owner_in-owner) → ℕ
+abbrev cell : (c : After-owner_in-owner) → ℕ
 cell c =
     cell_of c.args.l c.args.i.0
 
-owner-is : (c : After-owner_in-owner) → c.owner_in-owner.result.processor ≡ run_owner runs cell c
+owner-is : (c : After-owner_in-owner) → c.owner_in-owner.result.processor ≡ run_owner (runs c) (cell c)
 owner-is c =
-    c.owner_in-owner.ensures.processor_value ∙ ap (run_owner runs c) c.cell_of-c.ensures
+    c.owner_in-owner.ensures.processor_value ∙ ap (run_owner (runs c)) c.cell_of-c.ensures
 
-starts : (c : After-owner_in-owner) → c.owner_in-owner.result.start.0 ≡ run_start runs (run_owner runs cell c)
+starts : (c : After-owner_in-owner) → c.owner_in-owner.result.start.0 ≡ run_start (runs c) (run_owner (runs c) (cell c))
 starts c =
-    c.owner_in-owner.ensures.start_value ∙ ap (run_start runs c) owner-is c
+    c.owner_in-owner.ensures.start_value ∙ ap (run_start (runs c)) (owner-is c)
 
 -- the elements of the owner
 home : (c : After-owner_in-owner) → let l : Layout = c.args.l in
@@ -57,7 +57,7 @@ home : (c : After-owner_in-owner) → let l : Layout = c.args.l in
     let q : ℕ = owner_for l d c.args.i.0 in
     OneRun (owner_for l d) l.size q (index_from l (run_start rs q)) (index_from l (run_start rs (suc q)))
 home c =
-    one-run c.args.l c.requires.1 (sizes_of c.args.sizes.now) (length c.args.sizes.now % 4) (covered c.before.before.before) _
+    one-run c.args.l c.requires.1 (sizes_of c.args.sizes.now) (length c.args.sizes.now % 4) ((rw (listed c).words (listed c).covers)) _
 
 pub index_from-first-requires : goal.index_from-first-requires
 index_from-first-requires c = (c.requires.1, omega (arith, starts (goal.at.index_from-first-requires c).After-owner_in-owner, (owner-run (runs (goal.at.index_from-first-requires c).After-owner_in-owner) (cell (goal.at.index_from-first-requires c).After-owner_in-owner) (in-a-run (goal.at.index_from-first-requires c).Start)).from, in-template c.args.l c.requires.1 c.args.i.0 c.requires.2, c.requires.1.cells-high))
@@ -66,18 +66,15 @@ index_from-first-requires c = (c.requires.1, omega (arith, starts (goal.at.index
 first-is : (c : After-index_from-first) → let rs : List ℕ = run_sizes (sizes_of c.args.sizes.now) in
     c.index_from-first.result.0 ≡ index_from c.args.l (run_start rs (run_owner rs (cell_of c.args.l c.args.i.0)))
 first-is c =
-    let s = start c in
-    c.index_from-first.ensures ∙ ap (index_from s.args.l) (starts c.before.before)
-    ∙ ap (λ (ws : List ℕ). index_from s.args.l (run_start ws (run_owner ws (cell c.before.before)))) (sym (listed s).words)
+    c.index_from-first.ensures ∙ ap (index_from c.args.l) ((c.owner_in-owner.ensures.start_value ∙ ap (run_start (words_of 4 c.args.sizes.now)) (c.owner_in-owner.ensures.processor_value ∙ ap (run_owner (words_of 4 c.args.sizes.now)) c.cell_of-c.ensures)))
+    ∙ ap (λ (ws : List ℕ). index_from c.args.l (run_start ws (run_owner ws ((cell_of c.args.l c.args.i.0))))) (sym ((fitting c.args.l.cells c.args.l.processors c.args.sizes.now c.requires.0)).words)
 
 pub overflow_sub-x : goal.overflow_sub-x
-overflow_sub-x c =
-    let s = start c in
-    omega (arith, first-is (goal.at.overflow_sub-x c).After-index_from-first, ((home (goal.at.overflow_sub-x c).After-owner_in-owner).only s.args.i.0 s.pre.2 refl).0)
+overflow_sub-x c = omega (arith, first-is (goal.at.overflow_sub-x c).After-index_from-first, ((home (goal.at.overflow_sub-x c).After-owner_in-owner).only c.args.i.0 c.requires.2 refl).0)
 
 pub returns : goal.returns
 returns c =
-    let s = start c in (
-      owner-is (goal.at.returns c).After-owner_in-owner ∙ ap (λ (ws : List ℕ). run_owner ws (cell (goal.at.returns c).After-owner_in-owner)) (sym (listed s).words),
-      ap (λ (n : ℕ). s.args.i.0 - n) (first-is (goal.at.returns c).After-index_from-first) ∙ sym (run-rank (home (goal.at.returns c).After-owner_in-owner) s.args.i.0 s.pre.2 refl),
+    (
+      owner-is (goal.at.returns c).After-owner_in-owner ∙ ap (λ (ws : List ℕ). run_owner ws (cell (goal.at.returns c).After-owner_in-owner)) (sym (listed (goal.at.returns c).Start).words),
+      ap (λ (n : ℕ). c.args.i.0 - n) (first-is (goal.at.returns c).After-index_from-first) ∙ sym (run-rank (home (goal.at.returns c).After-owner_in-owner) c.args.i.0 c.requires.2 refl),
     )

@@ -16,45 +16,45 @@ further : (c : Start) → ℤ
 further c =
     c.args.a *ℤ c.args.j
 
-far : (c : Start) → nat_abs further c ≤ 2 ^ 43
+far : (c : Start) → nat_abs (further c) ≤ 2 ^ 43
 unfolding further
 far c =
     omega (arith, size-mul c.args.a c.args.j, product_le most_stride 2147483647 c.requires.stride c.requires.index)
 
-product : (c : Start) → back w64 c.args.a *ℤ back w64 c.args.j ≡ further c
+product : (c : Start) → back w64 c.args.a *ℤ back w64 c.args.j ≡ (further c)
 unfolding further
 product c =
     λ i. to_z-of_z w64 c.args.a c.ranges.a i *ℤ to_z-of_z w64 c.args.j c.ranges.j i
 
-product-fits : (c : Start) → SFits w64 further c
+product-fits : (c : Start) → SFits w64 (further c)
 product-fits c =
-    small-fits w64 further (omega (arith, far c))
+    small-fits w64 (further c) (omega (arith, (far c)))
 
 on : (c : Start) → ℤ
 on c =
-    further c +ℤ c.args.b
+    (further c) +ℤ c.args.b
 
-sum : (c : Start) → back w64 (back w64 c.args.a *ℤ back w64 c.args.j) +ℤ back w64 c.args.b ≡ on c
+sum : (c : Start) → back w64 (back w64 c.args.a *ℤ back w64 c.args.j) +ℤ back w64 c.args.b ≡ (on c)
 unfolding on
 sum c =
-    λ i. back_as w64 product c product-fits c i +ℤ to_z-of_z w64 c.args.b c.ranges.b i
+    λ i. back_as w64 (product c) (product-fits c) i +ℤ to_z-of_z w64 c.args.b c.ranges.b i
 
-on-small : (c : Start) → nat_abs on c ≤ 2 ^ 44
+on-small : (c : Start) → nat_abs (on c) ≤ 2 ^ 44
 unfolding on
 on-small c =
-    omega (arith, far c, size-add further c.args.b, c.requires.offset)
+    omega (arith, (far c), size-add (further c) c.args.b, c.requires.offset)
 
-sum_fits : (c : Start) → SFits w64 on c
+sum_fits : (c : Start) → SFits w64 (on c)
 sum_fits c =
-    small-fits w64 on (omega (arith, on-small c))
+    small-fits w64 (on c) (omega (arith, (on-small c)))
 
-cell : (c : Start) → back w64 (back w64 (back w64 c.args.a *ℤ back w64 c.args.j) +ℤ back w64 c.args.b) -ℤ back w64 c.args.origin ≡ on c -ℤ c.args.origin
+cell : (c : Start) → back w64 (back w64 (back w64 c.args.a *ℤ back w64 c.args.j) +ℤ back w64 c.args.b) -ℤ back w64 c.args.origin ≡ (on c) -ℤ c.args.origin
 cell c =
-    λ i. back_as w64 sum c sum_fits c i -ℤ to_z-of_z w64 c.args.origin c.ranges.origin i
+    λ i. back_as w64 (sum c) (sum_fits c) i -ℤ to_z-of_z w64 c.args.origin c.ranges.origin i
 
-cell-fits : (c : Start) → SFits w64 (on c -ℤ c.args.origin)
+cell-fits : (c : Start) → SFits w64 ((on c) -ℤ c.args.origin)
 cell-fits c =
-    small-fits w64 (on c -ℤ c.args.origin) (omega (arith, on-small c, size-sub on c.args.origin, c.requires.origin))
+    small-fits w64 ((on c) -ℤ c.args.origin) (omega (arith, (on-small c), size-sub (on c) c.args.origin, c.requires.origin))
 
 pub overflow_mul-result : goal.overflow_mul-result
 unfolding further

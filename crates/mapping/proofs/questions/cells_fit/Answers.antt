@@ -37,7 +37,7 @@ under s j z r e =
     let o = to_z-of_z w64 s.args.origin s.ranges.origin in
     r ∙ e ∙ (λ i. a i *ℤ j +ℤ b i -ℤ o i)
 
-first : (c : After-cell_under) → back w64 c.cell_under.result ≡ first_cell c
+first : (c : After-cell_under) → back w64 c.cell_under.result ≡ (c.args.a *ℤ c.args.lower +ℤ c.args.b -ℤ c.args.origin)
 first c =
     under c c.args.lower c.cell_under.result (to_z-of_z w64 c.cell_under.result (record { sfits = c.cell_under.type_inv }))
     (rw (to_z-of_z w64 c.args.lower c.ranges.lower) at c.cell_under.ensures)
@@ -47,7 +47,9 @@ unfolding cells_fit cell_under
 returns-then-cell_under-lt0 c = rw (some (goal.at.returns-then-cell_under-lt0 c).Else-n-lt1, holds-le (c.args.a *ℤ c.args.lower +ℤ c.args.b -ℤ c.args.origin) (pos 0) (sym (ap (λ (z : ℤ). lt_z z (pos 0)) (first (goal.at.returns-then-cell_under-lt0 c).After-cell_under)) ∙ c.if-cell_under-lt0.true))
 
 from-0 : (c : Else-cell_under-lt0) → le_z (pos 0) (c.args.a *ℤ c.args.lower +ℤ c.args.b -ℤ c.args.origin) ≡ true
-from-0 c = fails-le (c.args.a *ℤ c.args.lower +ℤ c.args.b -ℤ c.args.origin) (pos 0) (sym (ap (λ (z : ℤ). lt_z z (pos 0)) (first c.before)) ∙ c.if-cell_under-lt0.false)
+from-0 c =
+    fails-le (c.args.a *ℤ c.args.lower +ℤ c.args.b -ℤ c.args.origin) (pos 0) (sym (ap (λ (z : ℤ). lt_z z (pos 0)) ((under c c.args.lower c.cell_under.result (to_z-of_z w64 c.cell_under.result (record { sfits = c.cell_under.type_inv }))
+    (rw (to_z-of_z w64 c.args.lower c.ranges.lower) at c.cell_under.ensures)))) ∙ c.if-cell_under-lt0.false)
 
 pub last_of-requires : goal.last_of-requires
 last_of-requires c = rw (to_z-of_z w64 c.args.lower c.ranges.lower, to_z-of_z w64 c.args.n c.ranges.n) (c.requires.first.index, c.requires.size)

@@ -18,6 +18,8 @@ use Rattle.mapping.specs.Answers.{mapping_of, of_dealing}
 use Rattle.mapping.specs.Bounds.{Reached}
 use Rattle.mapping.proofs.Signs.{said-no, said-yes}
 use Rattle.mapping.proofs.Refusals.{first, dealing-refused, dealing-yes, size-refused, bounds-refused, cells-refused, all_held}
+use mathlib.Core.Bool.{not}
+use mathlib.Core.Path.{ap}
 use Rattle.mapping.proofs.questions.first_refusal.Goals as goal
 use Rattle.mapping.proofs.questions.first_refusal.Goals.{After-bounds_fit, After-cells_fit, After-dealing_refusal-dealing, Else-dealing-ne0, Else-not-bounds_fit, Else-not-within}
 
@@ -34,19 +36,22 @@ returns-then-dealing-ne0 c =
 
 -- questions 1 to 4 hold
 dealt : (c : Else-dealing-ne0) → first_no (first c.args.listed (mapping_of c.args.t c.args.p (dealing_with c.args.d []) c.args.a c.args.b c.args.n c.args.lower c.args.origin)) ≡ 0
-dealt c = sym (dealing c.before) ∙ c.if-dealing-ne0.false
+dealt c =
+    sym ((c.dealing_refusal-dealing.ensures
+    ∙ (λ i. first_no (of_dealing (to_z-of_z w64 c.args.t c.ranges.t i) (to_z-of_z w64 c.args.p c.ranges.p i) (dealing_with c.args.d []) c.args.listed (to_z-of_z w64 c.args.a c.ranges.a i) (to_z-of_z w64 c.args.b c.ranges.b i))))) ∙ c.if-dealing-ne0.false
 
 pub returns-then-not-within : goal.returns-then-not-within
 returns-then-not-within c =
     size-refused c.args.listed (mapping_of c.args.t c.args.p (dealing_with c.args.d []) c.args.a c.args.b c.args.n c.args.lower c.args.origin) (dealt (goal.at.returns-then-not-within c).Else-dealing-ne0)
-    (said-no (between (pos 0) most) c.args.n c.ranges.n c.within.ensures c.if-not-within.true)
+    (said-no (between (pos 0) most) c.args.n c.ranges.n c.within.ensures (ap not c.if-not-within.true))
 
 sized : (c : Else-not-within) → between (pos 0) most c.args.n ≡ true
-sized c = said-yes (between (pos 0) most) c.args.n c.ranges.n c.within.ensures c.if-not-within.false
+sized c = said-yes (between (pos 0) most) c.args.n c.ranges.n c.within.ensures (ap not c.if-not-within.false)
 
 yes-all : (c : Else-not-within) → AllYes (first c.args.listed (mapping_of c.args.t c.args.p (dealing_with c.args.d []) c.args.a c.args.b c.args.n c.args.lower c.args.origin))
 yes-all c =
-    dealing-yes c.args.listed (mapping_of c.args.t c.args.p (dealing_with c.args.d []) c.args.a c.args.b c.args.n c.args.lower c.args.origin) (dealt c.before.before)
+    dealing-yes c.args.listed (mapping_of c.args.t c.args.p (dealing_with c.args.d []) c.args.a c.args.b c.args.n c.args.lower c.args.origin) ((sym ((c.dealing_refusal-dealing.ensures
+    ∙ (λ i. first_no (of_dealing (to_z-of_z w64 c.args.t c.ranges.t i) (to_z-of_z w64 c.args.p c.ranges.p i) (dealing_with c.args.d []) c.args.listed (to_z-of_z w64 c.args.a c.ranges.a i) (to_z-of_z w64 c.args.b c.ranges.b i))))) ∙ c.if-dealing-ne0.false))
 
 size_small : (c : Else-not-within) → nat_abs c.args.n ≤ 2147483647
 size_small c =
@@ -69,28 +74,27 @@ bounds c =
 
 pub returns-then-not-bounds_fit : goal.returns-then-not-bounds_fit
 returns-then-not-bounds_fit c =
-    let s = start c in
-    bounds-refused s.args.listed (mapping_of s.args.t s.args.p (dealing_with s.args.d []) s.args.a s.args.b s.args.n s.args.lower s.args.origin) (dealt (goal.at.returns-then-not-bounds_fit c).Else-dealing-ne0) (sized (goal.at.returns-then-not-bounds_fit c).Else-not-within)
-    (sym (bounds (goal.at.returns-then-not-bounds_fit c).After-bounds_fit) ∙ not-true _ c.if-not-bounds_fit.true)
+    bounds-refused c.args.listed (mapping_of c.args.t c.args.p (dealing_with c.args.d []) c.args.a c.args.b c.args.n c.args.lower c.args.origin) (dealt (goal.at.returns-then-not-bounds_fit c).Else-dealing-ne0) (sized (goal.at.returns-then-not-bounds_fit c).Else-not-within)
+    (sym (bounds (goal.at.returns-then-not-bounds_fit c).After-bounds_fit) ∙ not-true _ (ap not c.if-not-bounds_fit.true))
 
 bounded : (c : Else-not-bounds_fit) → bounds_fit (mapping_of c.args.t c.args.p (dealing_with c.args.d []) c.args.a c.args.b c.args.n c.args.lower c.args.origin) ≡ true
-bounded c = sym (bounds c.before) ∙ not-false _ c.if-not-bounds_fit.false
+bounded c = sym (bounds c.before) ∙ not-false _ (ap not c.if-not-bounds_fit.false)
 
 -- the numbers that `cells_fit_lem` is called with are in range
 reached : (c : Else-not-bounds_fit) → Reached c.args.a c.args.b c.args.n c.args.lower c.args.origin
 unfolding last_index
 reached c =
-    let s = start c in
-    let w = bounds_of (mapping_of s.args.t s.args.p (dealing_with s.args.d []) s.args.a s.args.b s.args.n s.args.lower s.args.origin) (bounded c) in
-    let four = both_true (between (pos 1) (pos most_stride) s.args.a) (between least most s.args.b) (yes-all c.before.before).1.1.1.1.0 in
+    let w = bounds_of (mapping_of c.args.t c.args.p (dealing_with c.args.d []) c.args.a c.args.b c.args.n c.args.lower c.args.origin) (bounded c) in
+    let four = both_true (between (pos 1) (pos most_stride) c.args.a) (between least most c.args.b) ((dealing-yes c.args.listed (mapping_of c.args.t c.args.p (dealing_with c.args.d []) c.args.a c.args.b c.args.n c.args.lower c.args.origin) ((sym ((c.dealing_refusal-dealing.ensures
+    ∙ (λ i. first_no (of_dealing (to_z-of_z w64 c.args.t c.ranges.t i) (to_z-of_z w64 c.args.p c.ranges.p i) (dealing_with c.args.d []) c.args.listed (to_z-of_z w64 c.args.a c.ranges.a i) (to_z-of_z w64 c.args.b c.ranges.b i))))) ∙ c.if-dealing-ne0.false)))).1.1.1.1.0 in
     record {
       first = record {
-        stride = size-upto (between_is 1 most_stride s.args.a four.0);
-        offset = size_is s.args.b four.1;
+        stride = size-upto (between_is 1 most_stride c.args.a four.0);
+        offset = size_is c.args.b four.1;
         origin = w.origin;
         index = w.lower;
       };
-      size = size_small c.before.before;
+      size = (size-upto (between_is 0 2147483647 c.args.n (sized c)));
       last = w.last;
     }
 
@@ -119,12 +123,10 @@ cells c =
 
 pub returns-then-not-cells_fit : goal.returns-then-not-cells_fit
 returns-then-not-cells_fit c =
-    let s = start c in
-    cells-refused s.args.listed (mapping_of s.args.t s.args.p (dealing_with s.args.d []) s.args.a s.args.b s.args.n s.args.lower s.args.origin) (dealt (goal.at.returns-then-not-cells_fit c).Else-dealing-ne0) (sized (goal.at.returns-then-not-cells_fit c).Else-not-within) (bounded (goal.at.returns-then-not-cells_fit c).Else-not-bounds_fit)
-    (sym (cells (goal.at.returns-then-not-cells_fit c).After-cells_fit) ∙ not-true _ c.if-not-cells_fit.true)
+    cells-refused c.args.listed (mapping_of c.args.t c.args.p (dealing_with c.args.d []) c.args.a c.args.b c.args.n c.args.lower c.args.origin) (dealt (goal.at.returns-then-not-cells_fit c).Else-dealing-ne0) (sized (goal.at.returns-then-not-cells_fit c).Else-not-within) (bounded (goal.at.returns-then-not-cells_fit c).Else-not-bounds_fit)
+    (sym (cells (goal.at.returns-then-not-cells_fit c).After-cells_fit) ∙ not-true _ (ap not c.if-not-cells_fit.true))
 
 pub returns : goal.returns
 returns c =
-    let s = start c in
-    all_held s.args.listed (mapping_of s.args.t s.args.p (dealing_with s.args.d []) s.args.a s.args.b s.args.n s.args.lower s.args.origin) (dealt (goal.at.returns c).Else-dealing-ne0) (sized (goal.at.returns c).Else-not-within) (bounded (goal.at.returns c).Else-not-bounds_fit)
-    (sym (cells (goal.at.returns c).After-cells_fit) ∙ not-false _ c.if-not-cells_fit.false)
+    all_held c.args.listed (mapping_of c.args.t c.args.p (dealing_with c.args.d []) c.args.a c.args.b c.args.n c.args.lower c.args.origin) (dealt (goal.at.returns c).Else-dealing-ne0) (sized (goal.at.returns c).Else-not-within) (bounded (goal.at.returns c).Else-not-bounds_fit)
+    (sym (cells (goal.at.returns c).After-cells_fit) ∙ not-false _ (ap not c.if-not-cells_fit.false))

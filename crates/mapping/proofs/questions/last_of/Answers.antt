@@ -13,25 +13,25 @@ past : (c : Start) → ℤ
 past c =
     c.args.lower +ℤ c.args.n
 
-sum : (c : Start) → back w64 c.args.lower +ℤ back w64 c.args.n ≡ past c
+sum : (c : Start) → back w64 c.args.lower +ℤ back w64 c.args.n ≡ (past c)
 unfolding past
 sum c =
     λ i. to_z-of_z w64 c.args.lower c.ranges.lower i +ℤ to_z-of_z w64 c.args.n c.ranges.n i
 
-sum_fits : (c : Start) → SFits w64 past c
+sum_fits : (c : Start) → SFits w64 (past c)
 unfolding past
 sum_fits c =
-    small-fits w64 past (omega (arith, size-add c.args.lower c.args.n, c.requires.0, c.requires.1))
+    small-fits w64 (past c) (omega (arith, size-add c.args.lower c.args.n, c.requires.0, c.requires.1))
 
-last : (c : Start) → back w64 (back w64 c.args.lower +ℤ back w64 c.args.n) -ℤ pos 1 ≡ past c -ℤ pos 1
+last : (c : Start) → back w64 (back w64 c.args.lower +ℤ back w64 c.args.n) -ℤ pos 1 ≡ (past c) -ℤ pos 1
 last c =
-    ap (λ (z : ℤ). z -ℤ pos 1) (back_as w64 sum c sum_fits c)
+    ap (λ (z : ℤ). z -ℤ pos 1) (back_as w64 (sum c) (sum_fits c))
 
-last_fits : (c : Start) → SFits w64 (past c -ℤ pos 1)
+last_fits : (c : Start) → SFits w64 ((past c) -ℤ pos 1)
 unfolding past
 last_fits c =
-    small-fits w64 (past c -ℤ pos 1)
-    (omega (arith, size-sub past (pos 1), size-add c.args.lower c.args.n, c.requires.0, c.requires.1))
+    small-fits w64 ((past c) -ℤ pos 1)
+    (omega (arith, size-sub (past c) (pos 1), size-add c.args.lower c.args.n, c.requires.0, c.requires.1))
 
 pub overflow_add-result : goal.overflow_add-result
 unfolding past

@@ -52,7 +52,17 @@ accepted m l lower ok e f = rw (e, f, eq-eqb (first_no (of_mapping m)) 0 ok) (re
 
 -- nothing was answered no
 none : (c : Else-q-ne0) → first_no (of_mapping (mapping_of c.args.t c.args.p (dealing_with c.args.d c.args.sizes.now) c.args.a c.args.b c.args.n c.args.lower c.args.origin)) ≡ 0
-none c = sym (first c.before) ∙ c.if-q-ne0.false
+none c =
+    sym ((let t = to_z-of_z w64 c.args.t c.ranges.t in
+    let p = to_z-of_z w64 c.args.p c.ranges.p in
+    let a = to_z-of_z w64 c.args.a c.ranges.a in
+    let b = to_z-of_z w64 c.args.b c.ranges.b in
+    let n = to_z-of_z w64 c.args.n c.ranges.n in
+    let l = to_z-of_z w64 c.args.lower c.ranges.lower in
+    let o = to_z-of_z w64 c.args.origin c.ranges.origin in
+    c.first_refusal-q.ensures
+    ∙ (λ i. first_no (of_listed (c.requires i) (mapping_of (t i) (p i) (dealing_with c.args.d []) (a i) (b i) (n i) (l i) (o i))))
+    ∙ listed-asked c.args.t c.args.p c.args.d c.args.sizes.now c.args.a c.args.b c.args.n c.args.lower c.args.origin)) ∙ c.if-q-ne0.false
 
 aligned : (m : Mapping) → first_no (of_mapping m) ≡ 0 → Aligned m.stride m.offset m.origin m.lower
 aligned m ok =

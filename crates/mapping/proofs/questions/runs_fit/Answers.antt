@@ -20,7 +20,7 @@ asked : (c : After-within) → c.within.result ≡ between (pos 1) (pos 1024) c.
 asked c = read_of w64 (between (pos 1) (pos 1024)) c.args.p c.ranges.p c.within.ensures
 
 holds : (c : Then-within) → between (pos 1) (pos 1024) c.args.p ≡ true
-holds c = sym (asked c.before) ∙ c.if-within.true
+holds c = sym ((read_of w64 (between (pos 1) (pos 1024)) c.args.p c.ranges.p c.within.ensures)) ∙ c.if-within.true
 
 pub sizes_fit-requires : goal.sizes_fit-requires
 sizes_fit-requires c =

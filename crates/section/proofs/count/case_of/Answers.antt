@@ -29,26 +29,26 @@ s : (c : Start) → ℤ
 s c =
     c.args.s
 
-r : (c : Start) → Ranged l c h c s c
+r : (c : Start) → Ranged (l c) (h c) (s c)
 unfolding l h s
 r c =
-    ranged (triplet_of l c h c s c) c.requires
+    ranged (triplet_of (l c) (h c) (s c)) c.requires
 
-stride : (c : Start) → back w64 s c ≡ s c
+stride : (c : Start) → back w64 (s c) ≡ (s c)
 stride c =
-    bound-read s c r c.step
+    bound-read (s c) r.step
 
-up : (c : Start) → back w64 (back w64 h c -ℤ back w64 l c) ≡ h c -ℤ l c
+up : (c : Start) → back w64 (back w64 (h c) -ℤ back w64 (l c)) ≡ (h c) -ℤ (l c)
 up c =
-    difference-read h c l c r c.upper r c.lower
+    difference-read (h c) (l c) r.upper r.lower
 
-down : (c : Start) → back w64 (back w64 l c -ℤ back w64 h c) ≡ l c -ℤ h c
+down : (c : Start) → back w64 (back w64 (l c) -ℤ back w64 (h c)) ≡ (l c) -ℤ (h c)
 down c =
-    difference-read l c h c r c.lower r c.upper
+    difference-read (l c) (h c) r.lower r.upper
 
-backward : (c : Start) → back w64 (pos 0 -ℤ back w64 s c) ≡ pos 0 -ℤ s c
+backward : (c : Start) → back w64 (pos 0 -ℤ back w64 (s c)) ≡ pos 0 -ℤ (s c)
 backward c =
-    difference-read (pos 0) s (omega arith) r c.step
+    difference-read (pos 0) (s c) (omega arith) r.step
 
 pub overflow_sub-up : goal.overflow_sub-up
 unfolding l h

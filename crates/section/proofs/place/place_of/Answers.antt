@@ -20,15 +20,15 @@ pub nonzero_rem-c : goal.nonzero_rem-c
 nonzero_rem-c c = omega (arith, c.course_cells-m.ensures, course-some c.args.w.layout c.requires.0.sized)
 
 -- what is worked out before the search
-m : (c : After-spread_of) → ℕ
+abbrev m : (c : After-spread_of) → ℕ
 m c =
     c.course_cells-m.result
 
-k : (c : After-spread_of) → ℕ
+abbrev k : (c : After-spread_of) → ℕ
 k c =
     c.args.w.layout.block
 
-worked : (c : After-spread_of) → Worked c.args.w m c.cell_of.result.0 c.spread_of.result
+worked : (c : After-spread_of) → Worked c.args.w (m c) c.cell_of.result.0 c.spread_of.result
 worked c =
     record {
       course = c.course_cells-m.ensures;
@@ -36,21 +36,21 @@ worked c =
       spread = c.spread_of.ensures;
     }
 
-block_room : (c : After-spread_of) → c.args.q * k c + k c ≤ m c
+block_room : (c : After-spread_of) → c.args.q * (k c) + (k c) ≤ (m c)
 block_room c =
-    room worked c.requires.0 c.args.q c.requires.1
+    room (worked c) c.requires.0 c.args.q c.requires.1
 
-some : (c : After-spread_of) → 0 < m c
+some : (c : After-spread_of) → 0 < (m c)
 some c =
-    m-pos worked c.requires.0
+    m-pos (worked c) c.requires.0
 
-small : (c : After-spread_of) → m c ≤ 67108864
+small : (c : After-spread_of) → (m c) ≤ 67108864
 small c =
-    m-high worked c.requires.0
+    m-high (worked c) c.requires.0
 
-column-low : (c : After-spread_of) → c.cell_of.result.0 % m c < m c
+column-low : (c : After-spread_of) → c.cell_of.result.0 % (m c) < (m c)
 column-low c =
-    mod-lt c.cell_of.result.0 some c
+    mod-lt c.cell_of.result.0 (some c)
 
 pub nonzero_rem-s : goal.nonzero_rem-s
 nonzero_rem-s c = some (goal.at.nonzero_rem-s c).After-spread_of
@@ -63,9 +63,8 @@ first_owned-requires c = block_in_lem (worked (goal.at.first_owned-requires c).A
 
 pub returns-then-w : goal.returns-then-w
 returns-then-w c =
-    let s = start c in
-    c.found_below.ensures ∙ ap (found_below s.args.w.count) c.first_owned.ensures
-    ∙ place_up (worked (goal.at.returns-then-w c).After-spread_of) s.pre.0 s.args.q s.pre.1 c.if-w.true
+    c.found_below.ensures ∙ ap (found_below c.args.w.count) c.first_owned.ensures
+    ∙ place_up (worked (goal.at.returns-then-w c).After-spread_of) c.requires.0 c.args.q c.requires.1 c.if-w.true
 
 pub overflow_sub-column : goal.overflow_sub-column
 overflow_sub-column c = some (goal.at.overflow_sub-column c).After-spread_of
@@ -84,6 +83,5 @@ first_owned-requires-2 c = block_in_lem (worked (goal.at.first_owned-requires-2 
 
 pub returns : goal.returns
 returns c =
-    let s = start c in
-    c.found_below-2.ensures ∙ ap (found_below s.args.w.count) c.first_owned-2.ensures
-    ∙ place_down (worked (goal.at.returns c).After-spread_of) s.pre.0 s.args.q s.pre.1 c.if-w.false
+    c.found_below-2.ensures ∙ ap (found_below c.args.w.count) c.first_owned-2.ensures
+    ∙ place_down (worked (goal.at.returns c).After-spread_of) c.requires.0 c.args.q c.requires.1 c.if-w.false

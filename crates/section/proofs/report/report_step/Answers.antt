@@ -16,7 +16,7 @@ plus c =
 
 minus : (c : Start) → pos 0 -ℤ to_z w64 c.args.r.column ≡ neg_ℤ (pos c.args.r.column)
 minus c =
-    ap (λ (z : ℤ). pos 0 -ℤ z) plus c ∙ +ℤ_idl (neg_ℤ (pos c.args.r.column))
+    ap (λ (z : ℤ). pos 0 -ℤ z) (plus c) ∙ +ℤ_idl (neg_ℤ (pos c.args.r.column))
 
 minus-fits : (c : Start) → SFits w64 (neg_ℤ (pos c.args.r.column))
 minus-fits c =

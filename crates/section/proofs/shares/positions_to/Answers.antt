@@ -27,7 +27,7 @@ first c =
 
 low : (c : After-spread_of-s) → c.cell_at-first.result.0 < 2147483648
 low c =
-    omega (arith, first c, cell-inside c.args.w c.requires.0 0 c.requires.1, c.requires.0.sized.cells-high)
+    omega (arith, (first c), cell-inside c.args.w c.requires.0 0 c.requires.1, c.requires.0.sized.cells-high)
 
 some : (c : After-spread_of-s) → 0 < c.spread_of-s.result
 some c =

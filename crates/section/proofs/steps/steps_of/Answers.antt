@@ -14,11 +14,11 @@ pub returns-then-w-lt2 : goal.returns-then-w-lt2
 returns-then-w-lt2 c = no_step c.args.w refl refl c.if-w-lt2.true
 
 -- what is worked out before the cases
-m-is : (c : After-gcd-d) → c.course_cells-m.result ≡ course_cells c.args.w.layout
+abbrev m-is : (c : After-gcd-d) → c.course_cells-m.result ≡ course_cells c.args.w.layout
 m-is c =
     c.course_cells-m.ensures
 
-s-is : (c : After-gcd-d) → c.spread_of-s.result ≡ c.args.w.layout.stride * c.args.w.stride
+abbrev s-is : (c : After-gcd-d) → c.spread_of-s.result ≡ c.args.w.layout.stride * c.args.w.stride
 s-is c =
     c.spread_of-s.ensures
 

@@ -12,7 +12,7 @@ cut c = rw c.least-length.ensures (least-cut c.requires)
 
 -- where the pointer moves to
 moved : (c : After-place_of-at) → c.place_of-at.result + c.least-length.result ≤ 2147483647
-moved c = omega (arith, c.place_of-at.ensures, at_room c.requires (cut c.before.before), c.requires.sized.size-high)
+moved c = omega (arith, c.place_of-at.ensures, at_room c.requires ((rw c.least-length.ensures (least-cut c.requires))), c.requires.sized.size-high)
 
 pub copy_run-requires : goal.copy_run-requires
 copy_run-requires c =

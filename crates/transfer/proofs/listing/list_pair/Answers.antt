@@ -37,36 +37,32 @@ wrote c =
     ∙ ap (λ (ts : List ℕ). fronted ts (start c).args.positions.now) c.walk_of-w.ensures.1
 
 -- each list has room
-n : (c : After-write_along) → ℕ
+abbrev n : (c : After-write_along) → ℕ
 n c =
     c.count_along-n.result
 
-room-1 : (c : After-write_along) → n c ≤ length (start c).args.positions.now
+room-1 : (c : After-write_along) → (n c) ≤ length (start c).args.positions.now
 room-1 c =
     c.if-positions-n.false
 
-room-2 : (c : After-write_along) → n c ≤ length (start c).args.sent.now
+room-2 : (c : After-write_along) → (n c) ≤ length (start c).args.sent.now
 room-2 c =
     c.if-sent-n.false
 
-room-3 : (c : After-write_along) → n c ≤ length (start c).args.received.now
+room-3 : (c : After-write_along) → (n c) ≤ length (start c).args.received.now
 room-3 c =
     c.if-received-n.false
 
 pub write_addresses-requires : goal.write_addresses-requires
 unfolding lists
-write_addresses-requires c =
-    let s = start c in
-    search (of_either s.args.p (counted (goal.at.write_addresses-requires c).After-count_along-n) (lists s) _ (wrote (goal.at.write_addresses-requires c).After-write_along) s.pre (room-1 (goal.at.write_addresses-requires c).After-write_along) s.args.sent.now (room-2 (goal.at.write_addresses-requires c).After-write_along))
+write_addresses-requires c = search (of_either c.args.p (counted (goal.at.write_addresses-requires c).After-count_along-n) (lists c) _ (wrote (goal.at.write_addresses-requires c).After-write_along) c.requires (room-1 (goal.at.write_addresses-requires c).After-write_along) c.args.sent.now (room-2 (goal.at.write_addresses-requires c).After-write_along))
 
 pub write_addresses-requires-2 : goal.write_addresses-requires-2
 unfolding lists
-write_addresses-requires-2 c =
-    let s = start c in
-    search (of_either s.args.p (counted (goal.at.write_addresses-requires-2 c).After-count_along-n) (lists s) _ (wrote (goal.at.write_addresses-requires-2 c).After-write_along) s.pre (room-1 (goal.at.write_addresses-requires-2 c).After-write_along) s.args.received.now (room-3 (goal.at.write_addresses-requires-2 c).After-write_along))
+write_addresses-requires-2 c = search (of_either c.args.p (counted (goal.at.write_addresses-requires-2 c).After-count_along-n) (lists c) _ (wrote (goal.at.write_addresses-requires-2 c).After-write_along) c.requires (room-1 (goal.at.write_addresses-requires-2 c).After-write_along) c.args.received.now (room-3 (goal.at.write_addresses-requires-2 c).After-write_along))
 
 pub returns : goal.returns
 unfolding lists
 returns c =
-    let s = start c in let whole = all_listed _ (counted (goal.at.returns c).After-count_along-n) (lists s) _ (wrote (goal.at.returns c).After-write_along) _ _ c.write_addresses.ensures c.write_addresses-2.ensures
-    (room-yes _ (lists s) (room-1 (goal.at.returns c).After-write_along) (room-2 (goal.at.returns c).After-write_along) (room-3 (goal.at.returns c).After-write_along)) in record { value = whole.0; received_after = whole.1 }
+    let whole = all_listed _ (counted (goal.at.returns c).After-count_along-n) (lists c) _ (wrote (goal.at.returns c).After-write_along) _ _ c.write_addresses.ensures c.write_addresses-2.ensures
+    (room-yes _ (lists c) (room-1 (goal.at.returns c).After-write_along) (room-2 (goal.at.returns c).After-write_along) (room-3 (goal.at.returns c).After-write_along)) in record { value = whole.0; received_after = whole.1 }

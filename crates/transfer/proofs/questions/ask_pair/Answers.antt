@@ -30,9 +30,8 @@ left_by c = sym c.ask_section-a.ensures.value ∙ c.in-By.is
 
 pub returns-in_default-b : goal.returns-in_default-b
 returns-in_default-b c =
-    let s = start c in
     ap Refused (c.refusal_of-in_default-b.ensures ∙ ap refusal_in c.in_default-b.is)
-    ∙ right-refused (section_with s.args.left s.args.left-sizes.now) (section_with s.args.right s.args.right-sizes.now) s.args.sender s.args.receiver _ (left_by (goal.at.returns-in_default-b c).In-By-2) _ (sym c.ask_section-b.ensures.value ∙ c.in_default-b.is)
+    ∙ right-refused (section_with c.args.left c.args.left_sizes.now) (section_with c.args.right c.args.right_sizes.now) c.args.sender c.args.receiver _ (left_by (goal.at.returns-in_default-b c).In-By-2) _ (sym c.ask_section-b.ensures.value ∙ c.in_default-b.is)
 
 right_by : (c : In-By-b-2) → asked_of (right (start c)) ≡ asked.By c.in-By-b.y
 right_by c = sym c.ask_section-b.ensures.value ∙ c.in-By-b.is
@@ -44,7 +43,7 @@ ends c =
     ∙ (λ i.
     first_no (of_ends c.in-By.x c.in-By-b.y (to_z-of_z w64 c.args.sender c.ranges.sender i)
     (to_z-of_z w64 c.args.receiver c.ranges.receiver i)))
-    ∙ both-accepted (section_with c.args.left c.args.left_sizes.now) (section_with c.args.right c.args.right_sizes.now) c.args.sender c.args.receiver _ (left_by c.before.before) _ (right_by c.before)
+    ∙ both-accepted (section_with c.args.left c.args.left_sizes.now) (section_with c.args.right c.args.right_sizes.now) c.args.sender c.args.receiver _ ((sym c.ask_section-a.ensures.value ∙ c.in-By.is)) _ ((sym c.ask_section-b.ensures.value ∙ c.in-By-b.is))
 
 pub returns-then-q-ne0 : goal.returns-then-q-ne0
 returns-then-q-ne0 c = refused-by (section_with c.args.left c.args.left_sizes.now) (section_with c.args.right c.args.right_sizes.now) c.args.sender c.args.receiver _ c.if-q-ne0.true (ends (goal.at.returns-then-q-ne0 c).After-ends_refusal-q)
@@ -55,29 +54,28 @@ yes c = all_yes _ refl (sym c.ends_refusal-q.ensures ∙ c.if-q-ne0.false)
 
 pub share_of-requires : goal.share_of-requires
 share_of-requires c =
-    let b = y c in (
-      subst Sound b.b.given.1 b.before.before.ask-section2.ensures.1,
-      listed (section_with c.args.right c.args.right_sizes.now) _ (right_by b),
+    (
+      subst Sound c.in-By-b.is c.ask_section-b.ensures.sound,
+      listed (section_with c.args.right c.args.right_sizes.now) _ (right_by (goal.at.share_of-requires c).In-By-b-2),
       (yes (goal.at.share_of-requires c).Else-q-ne0).0,
     )
 
 pub share_of-requires-2 : goal.share_of-requires-2
 share_of-requires-2 c =
-    let a = first c in (
-      subst Sound a.a.given.1 a.before.before.before.ask-section.ensures.1,
-      listed (section_with c.args.left c.args.left_sizes.now) _ (left_by a),
+    (
+      subst Sound c.in-By.is c.ask_section-a.ensures.sound,
+      listed (section_with c.args.left c.args.left_sizes.now) _ (left_by (goal.at.share_of-requires-2 c).In-By-2),
       (yes (goal.at.share_of-requires-2 c).Else-q-ne0).1.0,
     )
 
 pub returns : goal.returns
 returns c =
-    let b = y c in
-    let l = left c in
-    let r = right c in
+    let l = (section_with c.args.left c.args.left_sizes.now) in
+    let r = (section_with c.args.right c.args.right_sizes.now) in
     let q = to_z-of_z w64 c.args.sender c.ranges.sender in
     let m = to_z-of_z w64 c.args.receiver c.ranges.receiver in
-    let x-is = (passed l _ (left_by b)).strided in
-    let y-is = (passed r _ (right_by b)).strided in
+    let x-is = (passed l _ (left_by (goal.at.returns c).In-By-2)).strided in
+    let y-is = (passed r _ (right_by (goal.at.returns c).In-By-b-2)).strided in
     let sender = c.share_of.ensures ∙ (λ i. share_in (y-is i) (nat (q i)) (part_in r.mapping.dealing (nat (q i)))) in
     let receiver = c.share_of-2.ensures ∙ (λ i. share_in (x-is i) (nat (m i)) (part_in l.mapping.dealing (nat (m i)))) in
     (λ i. By (record { sender = sender i; receiver = receiver i }))

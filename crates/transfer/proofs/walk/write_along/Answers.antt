@@ -28,7 +28,7 @@ turned c = turn _ _ c.requires.0.meets c.loop-t.t.0 _ c.loop-t.invariant.0 c.loo
 -- the position stands next in what is to be written
 hit : (c : Then-owns_at) → Front (fronted (places c.args.w.walked c.args.w.tested) c.args.list.now)
     (c.loop-t.t.0 ∷ ahead c.args.w.walked c.args.w.tested c.next_of-t.result.0) c.loop-t.list c.loop-t.at
-hit c = same_rest ((turned c.before).hit (sym c.owns_at.ensures ∙ c.if-owns_at.true)) c.loop-t.invariant.2
+hit c = same_rest (((turn _ _ c.requires.0.meets c.loop-t.t.0 _ c.loop-t.invariant.0 c.loop-t-test.true c.next_of-t.ensures)).hit (sym c.owns_at.ensures ∙ c.if-owns_at.true)) c.loop-t.invariant.2
 
 pub overflow_cast-list : goal.overflow_cast-list
 overflow_cast-list c = omega (arith, count-high _ _ c.requires.0.meets, c.loop-t-test.true)

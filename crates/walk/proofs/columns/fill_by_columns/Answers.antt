@@ -32,7 +32,7 @@ next_turns-made-requires c = (even-goes c.requires.0 c.loop-n.invariant.2 (goes 
 far : (c : After-next_turns-made) → (0 < c.next_turns-made.result.turns)
     × (c.loop-n.n + c.next_turns-made.result.turns
     ≤ length c.loop-n.list / 4)
-far c = advances-some (inside c.before.before.before.before.before) c.next_turns-made.ensures
+far c = advances-some ((rw c.loop-n.invariant.2.same (omega (arith, c.loop-n-test.true, c.loop-n.invariant.1)))) c.next_turns-made.ensures
 
 pub overflow_add-n : goal.overflow_add-n
 overflow_add-n c = omega (arith, (far (goal.at.overflow_add-n c).After-next_turns-made).1, c.loop-n.invariant.2.same, c.well-formed.1.1.1.0.0)

@@ -1,6 +1,5 @@
 -- `ask_section` meets its contract: the fields of 64 bits are read back as the numbers they are.
 use mathlib.Core.Path.{◌≡◌, sym, ◌∙◌, subst}
-use borrow.Author.Rules.{rules}
 use mir.Syntax.{w64}
 use mir.ValLaws.{to_z-of_z}
 use Rattle.model.specs.Mappings.{Section, section_with}

@@ -1,0 +1,17 @@
+-- `copy_words` meets its contract. The invariant: j words are copied. The measure: those that are left.
+use Prim.Native.Nat.{ℕ, ◌+◌, ◌-◌, ◌≤◌, ◌<◌}
+use mathlib.Core.Path.{◌≡◌, refl, ap, ◌∙◌}
+use mathlib.Core.List.{List}
+use native.Mathlib.Numerals.{add-one}
+use native.Mathlib.Omega.{arith}
+use lib.ListN.{length, get_or, set}
+use Rattle.model.specs.Storages.{copied}
+use Rattle.model.proofs.CopyLaws.{copied-length}
+use Rattle.storage.specs.Copying.{copied_run}
+use Rattle.storage.proofs.words.copy_words.Given as goal
+
+abbrev pub invariant-loop-j : goal.invariant-loop-j
+invariant-loop-j l = (l.j ≤ l.n) × (l.to ≡ copied_run l.at l.start l.j l.from l.initial.to)
+
+abbrev pub decreases-loop-j : goal.decreases-loop-j
+decreases-loop-j l = l.n - l.j

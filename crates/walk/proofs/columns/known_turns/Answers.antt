@@ -27,7 +27,7 @@ pub bounds-columns-q : goal.bounds-columns-q
 bounds-columns-q c = omega (arith, (ready (goal.at.bounds-columns-q c).Else-count-s).1.column, c.requires.2)
 
 pub overflow_cast-add : goal.overflow_cast-add
-overflow_cast-add c = omega (arith, c.shared_slice_known-in-loop-i-1.given c.loop-i.s.column)
+overflow_cast-add c = omega arith
 
 pub overflow_cast-s : goal.overflow_cast-s
 overflow_cast-s c = omega (arith, (ready (goal.at.overflow_cast-s c).Else-count-s).1.address)
@@ -36,7 +36,7 @@ pub step-requires : goal.step-requires
 step-requires c = ready (goal.at.step-requires c).Else-count-s
 
 pub moved_on-s-requires : goal.moved_on-s-requires
-moved_on-s-requires c = ((ready (goal.at.moved_on-s-requires c).Else-count-s).1.address, omega (arith, c.shared_slice_known-in-loop-i-1.given c.loop-i.s.column))
+moved_on-s-requires c = ((ready (goal.at.moved_on-s-requires c).Else-count-s).1.address, omega arith)
 
 pub overflow_add-i : goal.overflow_add-i
 overflow_add-i c = omega (arith, c.loop-i-test.true, c.ranges.turns)

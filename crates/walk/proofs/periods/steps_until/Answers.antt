@@ -13,10 +13,10 @@ pub overflow_sub-quota : goal.overflow_sub-quota
 overflow_sub-quota c = c.loop-i.invariant.paid
 
 pub step-s-requires : goal.step-s-requires
-step-s-requires c = stepping-asks _ _ _ _ _ c.requires.0 c.requires.1 c.loop-i.inv c.if-count-s.false c.if-quota-s-lt-LEAST_TRIES.false c.requires.3 c.requires.4
+step-s-requires c = stepping-asks _ _ _ _ _ c.requires.0 c.requires.1 c.loop-i.invariant c.if-count-s.false c.if-quota-s-lt-LEAST_TRIES.false c.requires.3 c.requires.4
 
 pub loop-i-preserved : goal.loop-i-preserved
-loop-i-preserved c = stepping-turns _ _ _ _ _ c.requires.0 c.requires.1 c.loop-i.inv c.if-count-s.false c.if-quota-s-lt-LEAST_TRIES.false c.loop-i-test.true c.step-s.ensures
+loop-i-preserved c = stepping-turns _ _ _ _ _ c.requires.0 c.requires.1 c.loop-i.invariant c.if-count-s.false c.if-quota-s-lt-LEAST_TRIES.false c.loop-i-test.true c.step-s.ensures
 
 pub returns-after-loop-i : goal.returns-after-loop-i
 returns-after-loop-i c = stepping-ends _ _ _ _ _ c.loop-i.invariant (inl (omega (arith, c.loop-i.invariant.low)))

@@ -1,7 +1,6 @@
 -- `ownership` meets its contract.
 use mathlib.Core.Path.{sym, ◌∙◌}
 use mathlib.Core.Bool.{cond}
-use borrow.Author.Rules.{rules}
 use lib.IntN.{pos}
 use lib.Signed.{le_z}
 use mir.Syntax.{w64}
@@ -26,10 +25,13 @@ returns-in-By c =
     let w = to_z-of_z w64 c.args.third c.ranges.third in
     let k =
     to_z-of_z w64 c.index_to-k.result (record { sfits = c.index_to-k.type_inv }) ∙ c.index_to-k.ensures
-    ∙ (λ t. cond (le_z (pos 3) (r t)) (w t) (pos 0)) in record { result_value = c.owned_on.ensures.result_value
+    ∙ (λ t. cond (le_z (pos 3) (r t)) (w t) (pos 0)) in record {
+      result_value = c.owned_on.ensures.result_value
           ∙ (λ t. ownership_on c.in-By.x c.args.b.now c.args.c.now c.args.d.now (i t) (j t) (k t))
           ∙ ownership-by c.args.g c.args.b.now c.args.c.now c.args.d.now _ (sym c.ask_grid.ensures ∙ c.in-By.is)
-          (indices_from c.args.first c.args.second c.args.third); told_apart = c.owned_on.ensures.told_apart }
+          (indices_from c.args.first c.args.second c.args.third);
+      told_apart = c.owned_on.ensures.told_apart;
+    }
 
 pub returns-in-Refused : goal.returns-in-Refused
 returns-in-Refused c = let r = sym c.ask_grid.ensures ∙ c.in-Refused.is in record { result_value = ownership-refused c.args.g c.args.b.now c.args.c.now c.args.d.now c.in-Refused.e r (indices_from c.args.first c.args.second c.args.third); told_apart = told-apart c.args.g c.args.b.now c.args.c.now c.args.d.now c.in-Refused.e r }

@@ -3,7 +3,6 @@ use Prim.Native.Nat.{ℕ, ◌<◌}
 use mathlib.Core.Path.{◌≡◌, sym, ap, subst, ◌∙◌}
 use mathlib.Core.Bool.{true}
 use native.Mathlib.Omega.{arith}
-use borrow.Author.Rules.{rules}
 use lib.IntN.{ℤ, pos, ◌+ℤ◌}
 use mir.Syntax.{w64}
 use mir.Val.{SFits, to_z}
@@ -97,7 +96,7 @@ low c =
       arith,
       (found c),
       (rank-back (owner c) c.args.l.size ((c.natural-q.result)) c.natural.result (subst (λ (n : ℕ). c.natural.result < n) ((c.elements_in-elements.ensures ∙ ap (held_in c.args.l (c.natural-q.result)) (c.part_of-part.ensures.value)
-    ∙ held-part c.args.l c.requires.ranged.0 (dealing_with c.args.d c.args.sizes.now) (covered c.args.l c.requires.ranged.0 (dealing_with c.args.d c.args.sizes.now) c.requires.listed) (c.natural-q.result))) ((below-natural _ _ c.ranges.address c.natural.ensures ((said-yes (is_below (pos c.elements_in-elements.result)) c.args.address c.ranges.address c.is_below-2.ensures (ap not c.if-not-is_below-2.false))))))).inside,
+          ∙ held-part c.args.l c.requires.ranged.0 (dealing_with c.args.d c.args.sizes.now) (covered c.args.l c.requires.ranged.0 (dealing_with c.args.d c.args.sizes.now) c.requires.listed) (c.natural-q.result))) ((below-natural _ _ c.ranges.address c.natural.ensures ((said-yes (is_below (pos c.elements_in-elements.result)) c.args.address c.ranges.address c.is_below-2.ensures (ap not c.if-not-is_below-2.false))))))).inside,
       c.requires.ranged.0.size-high,
     )
 

@@ -1,7 +1,6 @@
 -- `going_back` meets its contract.
 use mathlib.Core.Path.{sym, ap, subst, ◌∙◌}
 use native.Mathlib.Omega.{arith}
-use borrow.Author.Rules.{rules}
 use mir.Syntax.{w64}
 use mir.ValLaws.{to_z-of_z}
 use Rattle.model.specs.Mappings.{mapping_with}
@@ -16,8 +15,11 @@ ask_mapping-asked-requires c = c.list_fits-listed.ensures
 
 pub returns-in_default : goal.returns-in_default
 returns-in_default c =
-    let number = c.refusal_of.ensures ∙ ap refusal_in c.in_default.is in record { result_value = ap not_found number
-          ∙ going-back-refused (mapping_with c.args.m c.args.sizes.now) _ (sym c.ask_mapping-asked.ensures.value ∙ c.in_default.is) c.args.processor c.args.address; told_apart = (omega (arith, number, subst Sound c.in_default.is c.ask_mapping-asked.ensures.sound), tt) }
+    let number = c.refusal_of.ensures ∙ ap refusal_in c.in_default.is in record {
+      result_value = ap not_found number
+          ∙ going-back-refused (mapping_with c.args.m c.args.sizes.now) _ (sym c.ask_mapping-asked.ensures.value ∙ c.in_default.is) c.args.processor c.args.address;
+      told_apart = (omega (arith, number, subst Sound c.in_default.is c.ask_mapping-asked.ensures.sound), tt);
+    }
 
 pub found_in-requires : goal.found_in-requires
 found_in-requires c =
@@ -29,6 +31,9 @@ pub returns : goal.returns
 returns c =
     let m = mapping_with c.args.m c.args.sizes.now in
     let sound = subst Sound c.in-By.is c.ask_mapping-asked.ensures.sound in
-    let lower = bound-read c.in-By.lower sound.1 in record { result_value = c.found_in.ensures.result_value
+    let lower = bound-read c.in-By.lower sound.1 in record {
+      result_value = c.found_in.ensures.result_value
           ∙ (λ i. going_back_in (owner_for c.in-By.l m.dealing) c.in-By.l (lower i) (to_z-of_z w64 c.args.processor c.ranges.processor i) (to_z-of_z w64 c.args.address c.ranges.address i))
-          ∙ going-back-by m _ _ (sym c.ask_mapping-asked.ensures.value ∙ c.in-By.is) c.args.processor c.args.address; told_apart = c.found_in.ensures.told_apart }
+          ∙ going-back-by m _ _ (sym c.ask_mapping-asked.ensures.value ∙ c.in-By.is) c.args.processor c.args.address;
+      told_apart = c.found_in.ensures.told_apart;
+    }

@@ -1,7 +1,6 @@
 -- `local_count` meets its contract.
 use mathlib.Core.Path.{sym, ap, subst, ◌∙◌}
 use native.Mathlib.Omega.{arith}
-use borrow.Author.Rules.{rules}
 use mir.Syntax.{w64}
 use mir.ValLaws.{to_z-of_z}
 use Rattle.model.specs.Mappings.{mapping_with}
@@ -15,8 +14,11 @@ ask_mapping-asked-requires c = c.list_fits-listed.ensures
 
 pub returns-in_default : goal.returns-in_default
 returns-in_default c =
-    let number = c.refusal_of.ensures ∙ ap refusal_in c.in_default.is in record { result_value = ap not_counted number
-          ∙ local-count-refused (mapping_with c.args.m c.args.sizes.now) _ (sym c.ask_mapping-asked.ensures.value ∙ c.in_default.is) c.args.processor; told_apart = (omega (arith, number, subst Sound c.in_default.is c.ask_mapping-asked.ensures.sound), tt) }
+    let number = c.refusal_of.ensures ∙ ap refusal_in c.in_default.is in record {
+      result_value = ap not_counted number
+          ∙ local-count-refused (mapping_with c.args.m c.args.sizes.now) _ (sym c.ask_mapping-asked.ensures.value ∙ c.in_default.is) c.args.processor;
+      told_apart = (omega (arith, number, subst Sound c.in_default.is c.ask_mapping-asked.ensures.sound), tt);
+    }
 
 pub counted_in-requires : goal.counted_in-requires
 counted_in-requires c =
@@ -25,6 +27,9 @@ counted_in-requires c =
 
 pub returns : goal.returns
 returns c =
-    let m = mapping_with c.args.m c.args.sizes.now in record { result_value = c.counted_in.ensures.result_value
+    let m = mapping_with c.args.m c.args.sizes.now in record {
+      result_value = c.counted_in.ensures.result_value
           ∙ (λ i. local_count_in (owner_for c.in-By.l m.dealing) c.in-By.l (to_z-of_z w64 c.args.processor c.ranges.processor i))
-          ∙ local-count-by m _ _ (sym c.ask_mapping-asked.ensures.value ∙ c.in-By.is) c.args.processor; told_apart = c.counted_in.ensures.told_apart }
+          ∙ local-count-by m _ _ (sym c.ask_mapping-asked.ensures.value ∙ c.in-By.is) c.args.processor;
+      told_apart = c.counted_in.ensures.told_apart;
+    }

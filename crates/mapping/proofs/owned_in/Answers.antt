@@ -1,9 +1,7 @@
 -- `owned_in` meets its contract.
-use Prim.Native.Nat.{◌<◌}
 use mathlib.Core.Path.{◌≡◌, sym, ap, ◌∙◌}
 use mathlib.Core.Bool.{true}
 use native.Mathlib.Omega.{arith}
-use borrow.Author.Rules.{rules}
 use borrow.Author.Tests.{not-true, not-false}
 use lib.IntN.{ℤ, pos, nat_abs, ◌+ℤ◌, ◌-ℤ◌}
 use mir.Syntax.{w64}
@@ -64,20 +62,29 @@ taken c =
 
 from-fits : (c : Else-not-within) → SFits w64 (from c)
 from-fits c =
-    small-fits w64 (from c) (omega (arith, ap nat_abs inside.whole, inside.below, c.requires.ranged.0.size-high))
+    small-fits w64 (from c) (omega (arith, ap nat_abs (inside c).whole, (inside c).below, c.requires.ranged.0.size-high))
 
 pub overflow_sub-index : goal.overflow_sub-index
 overflow_sub-index c = fits-as w64 (taken (goal.at.overflow_sub-index c).Else-not-within) (from-fits (goal.at.overflow_sub-index c).Else-not-within)
 
-counted : (c : After-natural) → c.natural.result ≡ nat ((c.args.index -ℤ c.args.lower))
-counted c = c.natural.ensures ∙ ap nat (back_as w64 ((λ i. to_z-of_z w64 c.args.index c.ranges.index i -ℤ to_z-of_z w64 c.args.lower c.ranges.lower i)) ((small-fits w64 (c.args.index -ℤ c.args.lower) (omega (arith, ap nat_abs inside.whole, inside.below, c.requires.ranged.0.size-high)))))
-
-index-lt : (c : After-natural) → c.natural.result < c.args.l.size
-index-lt c = omega (arith, counted c, (inside c.before).below)
+counted :
+    (c : After-natural) (i : Below (c.args.index -ℤ c.args.lower) c.args.l.size) →
+    c.natural.result ≡ nat (c.args.index -ℤ c.args.lower)
+counted c i =
+    c.natural.ensures
+    ∙ ap nat
+    (back_as w64
+    (λ i. to_z-of_z w64 c.args.index c.ranges.index i -ℤ to_z-of_z w64 c.args.lower c.ranges.lower i)
+    (small-fits w64 (c.args.index -ℤ c.args.lower) (omega (arith, ap nat_abs i.whole, i.below, c.requires.ranged.0.size-high))))
 
 pub home_of-home-requires : goal.home_of-home-requires
-home_of-home-requires c = (c.requires.listed, c.requires.ranged.0, index-lt (goal.at.home_of-home-requires c).After-natural)
+home_of-home-requires c = (
+  c.requires.listed,
+  c.requires.ranged.0,
+  let i = inside (goal.at.home_of-home-requires c).Else-not-within in
+      omega (arith, counted (goal.at.home_of-home-requires c).After-natural i, i.below),
+)
 
 pub returns : goal.returns
 unfolding ownership_in
-returns c = record { result_value = rw (is-index (goal.at.returns c).Else-not-within) (cc (c.home_of-home.ensures.0, c.home_of-home.ensures.1, counted (goal.at.returns c).After-natural)); told_apart = tt }
+returns c = record { result_value = rw (is-index (goal.at.returns c).Else-not-within) (cc (c.home_of-home.ensures.0, c.home_of-home.ensures.1, counted (goal.at.returns c).After-natural (inside (goal.at.returns c).Else-not-within))); told_apart = tt }

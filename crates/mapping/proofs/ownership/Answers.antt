@@ -1,7 +1,6 @@
 -- `ownership` meets its contract.
 use mathlib.Core.Path.{sym, ap, subst, ◌∙◌}
 use native.Mathlib.Omega.{arith}
-use borrow.Author.Rules.{rules}
 use mir.Syntax.{w64}
 use mir.ValLaws.{to_z-of_z}
 use Rattle.model.specs.Mappings.{mapping_with}
@@ -16,8 +15,11 @@ ask_mapping-asked-requires c = c.list_fits-listed.ensures
 
 pub returns-in_default : goal.returns-in_default
 returns-in_default c =
-    let number = c.refusal_of.ensures ∙ ap refusal_in c.in_default.is in record { result_value = ap no_owner number
-          ∙ ownership-refused (mapping_with c.args.m c.args.sizes.now) _ (sym c.ask_mapping-asked.ensures.value ∙ c.in_default.is) c.args.index; told_apart = (omega (arith, number, subst Sound c.in_default.is c.ask_mapping-asked.ensures.sound), tt) }
+    let number = c.refusal_of.ensures ∙ ap refusal_in c.in_default.is in record {
+      result_value = ap no_owner number
+          ∙ ownership-refused (mapping_with c.args.m c.args.sizes.now) _ (sym c.ask_mapping-asked.ensures.value ∙ c.in_default.is) c.args.index;
+      told_apart = (omega (arith, number, subst Sound c.in_default.is c.ask_mapping-asked.ensures.sound), tt);
+    }
 
 pub owned_in-requires : goal.owned_in-requires
 owned_in-requires c =
@@ -29,6 +31,9 @@ pub returns : goal.returns
 returns c =
     let m = mapping_with c.args.m c.args.sizes.now in
     let sound = subst Sound c.in-By.is c.ask_mapping-asked.ensures.sound in
-    let lower = bound-read c.in-By.lower sound.1 in record { result_value = c.owned_in.ensures.result_value
+    let lower = bound-read c.in-By.lower sound.1 in record {
+      result_value = c.owned_in.ensures.result_value
           ∙ (λ i. ownership_in (owner_for c.in-By.l m.dealing) c.in-By.l (lower i) (to_z-of_z w64 c.args.index c.ranges.index i))
-          ∙ ownership-by m _ _ (sym c.ask_mapping-asked.ensures.value ∙ c.in-By.is) c.args.index; told_apart = c.owned_in.ensures.told_apart }
+          ∙ ownership-by m _ _ (sym c.ask_mapping-asked.ensures.value ∙ c.in-By.is) c.args.index;
+      told_apart = c.owned_in.ensures.told_apart;
+    }

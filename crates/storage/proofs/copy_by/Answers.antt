@@ -25,19 +25,13 @@ returns-in_default c =
     )
   where
     refused : ℕ → CopyAnswer
-    refused e = record { refusal = e; needed = 0 } in record { result_value = whole.0; to_after = whole.1; told_apart = whole.2 }
+    refused e = record { refusal = e; needed = 0 } in record { result_value = whole.0; to_after = whole.1.0; told_apart = whole.1.1 }
 
 pub copy_in-requires : goal.copy_in-requires
 copy_in-requires c = (subst Sound c.in-By.is c.ask_mapping-asked.ensures.sound).0
 
 pub returns : goal.returns
 returns c =
-    let by = sym c.ask_mapping-asked.ensures.value ∙ c.in-By.is in let whole = (
-      ap copied_as c.copy_in.ensures.value
-          ∙ answer-by (mapping_with c.args.m c.args.sizes.now) c.args.from.now c.args.to.now _ _ by,
-      (
-        c.copy_in.ensures.to_after.0
-            ∙ written-by c.args.m c.args.sizes.now c.args.from.now c.args.to.now _ _ by c.args.loading,
-        c.copy_in.ensures.to_after.1,
-      ),
-    ) in record { result_value = whole.0; to_after = whole.1; told_apart = whole.2 }
+    let by = sym c.ask_mapping-asked.ensures.value ∙ c.in-By.is in record { result_value = ap copied_as c.copy_in.ensures.value
+          ∙ answer-by (mapping_with c.args.m c.args.sizes.now) c.args.from.now c.args.to.now _ _ by; to_after = c.copy_in.ensures.to_after
+            ∙ written-by c.args.m c.args.sizes.now c.args.from.now c.args.to.now _ _ by c.args.loading; told_apart = c.copy_in.ensures.told_apart }

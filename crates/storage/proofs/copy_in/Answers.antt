@@ -4,10 +4,16 @@ use borrow.Author.Rules.{rules}
 use Rattle.storage.proofs.copy_in.Goals as goal
 
 pub returns-then-from-n : goal.returns-then-from-n
-returns-then-from-n c = let short = read_short c.args.l.size c.args.from.now c.args.to.now c.if-from-n.true in let whole = (rw short, (rw short, tt)) in record { value = whole.0; to_after = whole.1; told_apart = whole.2 }
+returns-then-from-n c =
+    let short = read_short c.args.l.size c.args.from.now c.args.to.now c.if-from-n.true in
+    record { value = rw short; to_after = rw short; told_apart = tt }
 
 pub returns-then-to-n : goal.returns-then-to-n
-returns-then-to-n c = let short = written-short c.args.l.size c.args.from.now c.args.to.now c.if-from-n.false c.if-to-n.true in let whole = (rw short, (rw short, tt)) in record { value = whole.0; to_after = whole.1; told_apart = whole.2 }
+returns-then-to-n c =
+    let short = written-short c.args.l.size c.args.from.now c.args.to.now c.if-from-n.false c.if-to-n.true in
+    record { value = rw short; to_after = rw short; told_apart = tt }
 
 pub returns : goal.returns
-returns c = let whole = room c.args.l.size c.args.from.now c.args.to.now c.if-from-n.false c.if-to-n.false in let whole = (rw whole, (rw whole c.copy_dealt.ensures, tt)) in record { value = whole.0; to_after = whole.1; told_apart = whole.2 }
+returns c =
+    let whole = room c.args.l.size c.args.from.now c.args.to.now c.if-from-n.false c.if-to-n.false in
+    record { value = rw whole; to_after = rw whole c.copy_dealt.ensures; told_apart = tt }

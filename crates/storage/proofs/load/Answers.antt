@@ -4,4 +4,4 @@ use borrow.Author.Rules.{rules}
 use Rattle.storage.proofs.load.Goals as goal
 
 pub returns : goal.returns
-returns c = let whole = (c.copy_by.ensures.result_value, (c.copy_by.ensures.to_after.0, (refl, c.copy_by.ensures.to_after.1))) in record { result_value = whole.0; storage_after = whole.1; words_value = whole.2; told_apart = whole.3 }
+returns c = record { result_value = c.copy_by.ensures.result_value; storage_after = c.copy_by.ensures.to_after; words_value = refl; told_apart = c.copy_by.ensures.told_apart }

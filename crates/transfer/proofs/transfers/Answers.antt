@@ -24,21 +24,9 @@ list_pair-requires c = pair_fits (section_with c.args.left c.args.left_sizes.now
 pub returns-in-By : goal.returns-in-By
 returns-in-By c =
     let x = lists_of c.args.positions.now c.args.sent.now c.args.received.now in
-    let by = sym (answered (goal.at.returns-in-By c).After-ask_pair) ∙ c.in-By.is in let whole = (
-      ap transferred_as c.list_pair.ensures.value ∙ answer-by (section_with c.args.left c.args.left_sizes.now) (section_with c.args.right c.args.right_sizes.now) c.args.sender c.args.receiver x _ by,
-      (
-        c.list_pair.ensures.received_after ∙ lists-by (section_with c.args.left c.args.left_sizes.now) (section_with c.args.right c.args.right_sizes.now) c.args.sender c.args.receiver x _ by,
-        subst (λ (r : Transferred). ToldApart (transferred_refusals r)) (sym c.list_pair.ensures.value) (told-by _ x),
-      ),
-    ) in record { result_value = whole.0; received_after = whole.1; told_apart = whole.2 }
+    let by = sym (answered (goal.at.returns-in-By c).After-ask_pair) ∙ c.in-By.is in record { result_value = ap transferred_as c.list_pair.ensures.value ∙ answer-by (section_with c.args.left c.args.left_sizes.now) (section_with c.args.right c.args.right_sizes.now) c.args.sender c.args.receiver x _ by; received_after = c.list_pair.ensures.received_after ∙ lists-by (section_with c.args.left c.args.left_sizes.now) (section_with c.args.right c.args.right_sizes.now) c.args.sender c.args.receiver x _ by; told_apart = subst (λ (r : Transferred). ToldApart (transferred_refusals r)) (sym c.list_pair.ensures.value) (told-by _ x) }
 
 pub returns-in-Refused : goal.returns-in-Refused
 returns-in-Refused c =
     let x = lists_of c.args.positions.now c.args.sent.now c.args.received.now in
-    let by = sym (answered (goal.at.returns-in-Refused c).After-ask_pair) ∙ c.in-Refused.is in let whole = (
-      answer-refused (section_with c.args.left c.args.left_sizes.now) (section_with c.args.right c.args.right_sizes.now) c.args.sender c.args.receiver x _ by,
-      (
-        lists-refused (section_with c.args.left c.args.left_sizes.now) (section_with c.args.right c.args.right_sizes.now) c.args.sender c.args.receiver x _ by,
-        (told-refused (section_with c.args.left c.args.left_sizes.now) (section_with c.args.right c.args.right_sizes.now) c.args.sender c.args.receiver x _ by, tt),
-      ),
-    ) in record { result_value = whole.0; received_after = whole.1; told_apart = whole.2 }
+    let by = sym (answered (goal.at.returns-in-Refused c).After-ask_pair) ∙ c.in-Refused.is in record { result_value = answer-refused (section_with c.args.left c.args.left_sizes.now) (section_with c.args.right c.args.right_sizes.now) c.args.sender c.args.receiver x _ by; received_after = lists-refused (section_with c.args.left c.args.left_sizes.now) (section_with c.args.right c.args.right_sizes.now) c.args.sender c.args.receiver x _ by; told_apart = (told-refused (section_with c.args.left c.args.left_sizes.now) (section_with c.args.right c.args.right_sizes.now) c.args.sender c.args.receiver x _ by, tt) }

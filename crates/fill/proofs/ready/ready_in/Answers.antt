@@ -70,12 +70,12 @@ place-said c =
 
 pub returns-then-not-is_place : goal.returns-then-not-is_place
 unfolding ready_in first_no
-returns-then-not-is_place c = let whole = answered c (rw (eighth (goal.at.returns-then-not-is_place c).Else-not-is_processor, sym (place-said (goal.at.returns-then-not-is_place c).After-is_place) ∙ not-true _ (ap not c.if-not-is_place.true))) in record { value = whole.0; sound_ready = whole.1 }
+returns-then-not-is_place c = let whole = answered c (rw (eighth (goal.at.returns-then-not-is_place c).Else-not-is_processor, sym (place-said (goal.at.returns-then-not-is_place c).After-is_place) ∙ c.if-not-is_place.true)) in record { value = whole.0; sound_ready = whole.1 }
 
 tenth : (c : Else-not-is_place) → is_place_in (((share_for c) c.args.processor)) c.args.place ≡ true
 tenth c =
     sym ((read_of w64 (is_place_in c.share_of-share.result) c.args.place c.ranges.place c.is_place.ensures
-    ∙ (λ i. is_place_in ((read_of w64 (share_for c) c.args.processor c.ranges.processor c.share_of-share.ensures) i) c.args.place))) ∙ not-false _ (ap not c.if-not-is_place.false)
+    ∙ (λ i. is_place_in ((read_of w64 (share_for c) c.args.processor c.ranges.processor c.share_of-share.ensures) i) c.args.place))) ∙ c.if-not-is_place.false
 
 pub returns-then-not-within : goal.returns-then-not-within
 unfolding ready_in first_no

@@ -6,33 +6,33 @@ use Rattle.fill.specs.Starting.{Planned}
 use Rattle.fill.proofs.ReadyLaws.{elements-placed}
 use Rattle.fill.proofs.StartLaws.{constant-starts, learnt-starts, bytes-constant, bytes-learnt}
 use Rattle.fill.proofs.start.fill_blocks.Goals as goal
-use Rattle.fill.proofs.start.fill_blocks.Goals.{In-Constant-2, In-Learnt-2}
+use Rattle.fill.proofs.start.fill_blocks.Goals.{In-Constant, In-Learnt}
 
 pub plan_of-requires : goal.plan_of-requires
 plan_of-requires c = (c.requires.taken, c.requires.started.processor)
 
 -- the plan, in each of its cases
-constant : (c : In-Constant-2) → Planned c.args.s.section c.args.s.processor (Constant c.in-Constant.m)
+constant : (c : In-Constant) → Planned c.args.s.section c.args.s.processor (Constant c.in-Constant.m)
 constant c = subst (Planned c.args.s.section c.args.s.processor) c.in-Constant.is c.plan_of.ensures
 
-learnt : (c : In-Learnt-2) → Planned c.args.s.section c.args.s.processor (Learnt c.in-Learnt.m)
+learnt : (c : In-Learnt) → Planned c.args.s.section c.args.s.processor (Learnt c.in-Learnt.m)
 learnt c = subst (Planned c.args.s.section c.args.s.processor) c.in-Learnt.is c.plan_of.ensures
 
 pub fill_bytes-requires : goal.fill_bytes-requires
-fill_bytes-requires c = constant-starts c.args.s c.requires c.state_at-state.result c.state_at-state.ensures _ (constant (goal.at.fill_bytes-requires c).In-Constant-2)
+fill_bytes-requires c = constant-starts c.args.s c.requires c.state_at-state.result c.state_at-state.ensures _ (constant (goal.at.fill_bytes-requires c).In-Constant)
 
 pub fill_bytes_learning-requires : goal.fill_bytes_learning-requires
 fill_bytes_learning-requires c =
     rw c.task_of.ensures (
       (
         elements-placed _ c.requires.started.section-bounded,
-        learnt-starts c.args.s c.requires c.state_at-state.result c.state_at-state.ensures _ (learnt (goal.at.fill_bytes_learning-requires c).In-Learnt-2),
+        learnt-starts c.args.s c.requires c.state_at-state.result c.state_at-state.ensures _ (learnt (goal.at.fill_bytes_learning-requires c).In-Learnt),
       ),
-      (learnt (goal.at.fill_bytes_learning-requires c).In-Learnt-2 c.requires.taken.source c.requires.taken.accepted c.requires.taken.same).3,
+      (learnt (goal.at.fill_bytes_learning-requires c).In-Learnt c.requires.taken.source c.requires.taken.accepted c.requires.taken.same).3,
     )
 
 pub returns-in-Constant : goal.returns-in-Constant
-returns-in-Constant c = bytes-constant c.args.s c.requires c.state_at-state.result c.state_at-state.ensures _ _ _ c.fill_bytes.result (constant (goal.at.returns-in-Constant c).In-Constant-2) c.fill_bytes.ensures
+returns-in-Constant c = bytes-constant c.args.s c.requires c.state_at-state.result c.state_at-state.ensures _ _ _ c.fill_bytes.result (constant (goal.at.returns-in-Constant c).In-Constant) c.fill_bytes.ensures
 
 pub returns-in-Learnt : goal.returns-in-Learnt
-returns-in-Learnt c = bytes-learnt c.args.s c.requires c.state_at-state.result c.state_at-state.ensures _ _ _ c.fill_bytes_learning.result (learnt (goal.at.returns-in-Learnt c).In-Learnt-2) _ c.task_of.ensures c.fill_bytes_learning.ensures
+returns-in-Learnt c = bytes-learnt c.args.s c.requires c.state_at-state.result c.state_at-state.ensures _ _ _ c.fill_bytes_learning.result (learnt (goal.at.returns-in-Learnt c).In-Learnt) _ c.task_of.ensures c.fill_bytes_learning.ensures

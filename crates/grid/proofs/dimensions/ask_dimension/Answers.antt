@@ -1,6 +1,5 @@
 -- `ask_dimension` meets its contract.
 use mathlib.Core.Path.{sym, subst, ◌∙◌}
-use borrow.Author.Rules.{rules}
 use Rattle.model.specs.Mappings.{mapping_with}
 use Rattle.mapping.specs.Answers as mapping
 use Rattle.mapping.proofs.Signs.{bound-read}

@@ -1,7 +1,6 @@
 -- `are_indices` meets its contract.
 use mathlib.Core.Path.{◌≡◌}
 use mathlib.Core.Bool.{true}
-use borrow.Author.Rules.{rules}
 use mir.Syntax.{w64}
 use Rattle.numbers.proofs.Signed.{read_of}
 use Rattle.mapping.proofs.Signs.{said-no, said-yes}

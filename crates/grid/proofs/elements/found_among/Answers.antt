@@ -3,7 +3,6 @@ use Prim.Native.Nat.{ℕ, ◌*◌, ◌/◌, ◌%◌, ◌<◌}
 use mathlib.Core.Path.{◌≡◌, ap, ◌∙◌}
 use mathlib.Core.Bool.{true}
 use native.Mathlib.Omega.{arith}
-use borrow.Author.Rules.{rules}
 use lib.IntN.{pos}
 use mir.Syntax.{w64}
 use Rattle.numbers.proofs.Division.{product_le}
@@ -22,8 +21,8 @@ pub overflow_mul-row : goal.overflow_mul-row
 overflow_mul-row c =
     omega (
       arith,
-      product_le 2147483647 2147483647 (held_small c.args.x.second c.args.row c.requires.held_known_2.0)
-          (held_small c.args.x.third c.args.plane c.requires.held_known_2.1.0),
+      product_le 2147483647 2147483647 (held_small c.args.x.second c.args.row c.requires.held_known_2)
+          (held_small c.args.x.third c.args.plane c.requires.held_known_3),
     )
 
 pub returns-then-not-is_below : goal.returns-then-not-is_below
@@ -79,13 +78,13 @@ pub nonzero_rem-rest : goal.nonzero_rem-rest
 nonzero_rem-rest c = omega (arith, row_lt (goal.at.nonzero_rem-rest c).After-natural-a)
 
 pub index_at-requires-2 : goal.index_at-requires-2
-index_at-requires-2 c = (c.requires.held_known_2.0, row_lt (goal.at.index_at-requires-2 c).After-natural-a)
+index_at-requires-2 c = (c.requires.held_known_2, row_lt (goal.at.index_at-requires-2 c).After-natural-a)
 
 pub nonzero_div-rest-2 : goal.nonzero_div-rest-2
 nonzero_div-rest-2 c = omega (arith, row_lt (goal.at.nonzero_div-rest-2 c).After-natural-a)
 
 pub index_at-requires-3 : goal.index_at-requires-3
-index_at-requires-3 c = (c.requires.held_known_2.1.0, plane-lt (goal.at.index_at-requires-3 c).After-natural-a)
+index_at-requires-3 c = (c.requires.held_known_3, plane-lt (goal.at.index_at-requires-3 c).After-natural-a)
 
 pub returns : goal.returns
 unfolding found_among

@@ -3,7 +3,6 @@ use Prim.Native.Nat.{ℕ, ◌*◌, ◌/◌, ◌%◌, ◌≤◌, ◌<◌}
 use mathlib.Core.Path.{◌≡◌, sym, ap, subst, ◌∙◌}
 use mathlib.Core.Bool.{true}
 use native.Mathlib.Omega.{arith}
-use borrow.Author.Rules.{rules}
 use lib.IntN.{pos}
 use mir.Syntax.{w64}
 use mir.ValLaws.{to_z-of_z}
@@ -92,10 +91,14 @@ found_among-requires c =
     let u = held-known c.args.x.first c.args.b.now c.requires.first _ c.held_by-near.result (near-lt (goal.at.found_among-requires c).After-natural-o) c.held_by-near.ensures.value c.held_by-near.ensures.low in
     let v = held-known c.args.x.second c.args.c.now c.requires.second _ c.held_by-row.result (row_lt (goal.at.found_among-requires c).After-natural-o) c.held_by-row.ensures.value c.held_by-row.ensures.low in
     let w = held-known c.args.x.third c.args.d.now c.requires.third _ c.held_by-plane.result (plane-lt (goal.at.found_among-requires c).After-natural-o) c.held_by-plane.ensures.value c.held_by-plane.ensures.low in
-    let high = held_high c.args.x c.args.b.now c.args.c.now c.args.d.now c.requires c.args.processor (yes (goal.at.found_among-requires c).After-natural-o) in let whole = (u, (v, (w, subst (λ (i : ℕ). i ≤ 2147483647) (sym (λ i. (near (goal.at.found_among-requires c).After-held_by-plane i).elements * ((row (goal.at.found_among-requires c).After-held_by-plane i).elements * (plane (goal.at.found_among-requires c).After-held_by-plane i).elements))) high))) in record { held_known = whole.0; held_known_2 = whole.1; held_known_3 = whole.2; elements_bound = whole.3 }
+    let high = held_high c.args.x c.args.b.now c.args.c.now c.args.d.now c.requires c.args.processor (yes (goal.at.found_among-requires c).After-natural-o) in
+    record { held_known = u; held_known_2 = v; held_known_3 = w; elements_bound = subst (λ (i : ℕ). i ≤ 2147483647) (sym (λ i. (near (goal.at.found_among-requires c).After-held_by-plane i).elements * ((row (goal.at.found_among-requires c).After-held_by-plane i).elements * (plane (goal.at.found_among-requires c).After-held_by-plane i).elements))) high }
 
 pub returns : goal.returns
 returns c =
-    let e = to_z-of_z w64 c.args.address c.ranges.address in record { result_value = c.found_IsAmong.ensures.0
+    let e = to_z-of_z w64 c.args.address c.ranges.address in record {
+      result_value = c.found_among.ensures.result_value
           ∙ (λ t. found_among c.args.x (near (goal.at.returns c).After-held_by-plane t) (row (goal.at.returns c).After-held_by-plane t) (plane (goal.at.returns c).After-held_by-plane t) (e t))
-          ∙ found-so c.args.x c.args.b.now c.args.c.now c.args.d.now c.requires c.args.processor (yes (goal.at.returns c).After-natural-o) c.args.address; told_apart = c.found_IsAmong.ensures.1 }
+          ∙ found-so c.args.x c.args.b.now c.args.c.now c.args.d.now c.requires c.args.processor (yes (goal.at.returns c).After-natural-o) c.args.address;
+      told_apart = c.found_among.ensures.told_apart;
+    }

@@ -1,6 +1,5 @@
 -- `held_by_lem` meets its contract.
 use mathlib.Core.Path.{ap, ◌∙◌}
-use borrow.Author.Rules.{rules}
 use Rattle.mapping.specs.Parts.{held_in}
 use Rattle.grid.proofs.elements.held_by.Goals as goal
 

@@ -2,7 +2,6 @@
 use Prim.Native.Nat.{ℕ, ◌<◌}
 use mathlib.Core.Path.{◌≡◌, sym, ap, subst, ◌∙◌}
 use native.Mathlib.Omega.{arith}
-use borrow.Author.Rules.{rules}
 use lib.IntN.{ℤ, nat_abs, ◌-ℤ◌}
 use mir.Syntax.{w64}
 use mir.Val.{SFits}
@@ -33,20 +32,20 @@ array c =
 -- the index from 0
 abbrev from : (c : After-struct_told-2-1) → ℤ
 from c =
-    c.args.index.0 -ℤ x.lower
+    c.args.index.0 -ℤ (x c).lower
 
-inside : (c : After-struct_told-2-1) → Below (from c) x.layout.size
+inside : (c : After-struct_told-2-1) → Below (from c) (x c).layout.size
 inside c =
     index_below (x c) c.args.index.0 c.requires.index_value
 
-taken : (c : After-struct_told-2-1) → back w64 c.args.index.0 -ℤ back w64 x.lower ≡ (from c)
+taken : (c : After-struct_told-2-1) → back w64 c.args.index.0 -ℤ back w64 (x c).lower ≡ (from c)
 taken c =
     let fits : SFits w64 c.args.index.0 = record { sfits = c.struct_told-1.given.0.1 } in
-    λ i. to_z-of_z w64 c.args.index.0 fits i -ℤ bound-read x.lower c.requires.known.ranged.1 i
+    λ i. to_z-of_z w64 c.args.index.0 fits i -ℤ bound-read (x c).lower c.requires.known.ranged.1 i
 
 from-fits : (c : After-struct_told-2-1) → SFits w64 (from c)
 from-fits c =
-    small-fits w64 (from c) (omega (arith, ap nat_abs inside.whole, inside.below, c.requires.known.ranged.0.size-high))
+    small-fits w64 (from c) (omega (arith, ap nat_abs (inside c).whole, (inside c).below, c.requires.known.ranged.0.size-high))
 
 pub overflow_sub-index : goal.overflow_sub-index
 overflow_sub-index c = fits-as w64 (taken (goal.at.overflow_sub-index c).After-struct_told-2-1) (from-fits (goal.at.overflow_sub-index c).After-struct_told-2-1)
@@ -54,7 +53,7 @@ overflow_sub-index c = fits-as w64 (taken (goal.at.overflow_sub-index c).After-s
 counted : (c : After-natural) → c.natural.result ≡ from_lower_in ((c.args.x)) c.args.index.0
 counted c =
     c.natural.ensures ∙ ap nat (back_as w64 ((let fits : SFits w64 c.args.index.0 = record { sfits = c.struct_told-1.given.0.1 } in
-    λ i. to_z-of_z w64 c.args.index.0 fits i -ℤ bound-read x.lower c.requires.known.ranged.1 i)) ((small-fits w64 (c.args.index.0 -ℤ x.lower) (omega (arith, ap nat_abs inside.whole, inside.below, c.requires.known.ranged.0.size-high)))))
+    λ i. to_z-of_z w64 c.args.index.0 fits i -ℤ bound-read (c.args.x).lower c.requires.known.ranged.1 i)) ((small-fits w64 (c.args.index.0 -ℤ (c.args.x).lower) (omega (arith, ap nat_abs (index_below (c.args.x) c.args.index.0 c.requires.index_value).whole, (index_below (c.args.x) c.args.index.0 c.requires.index_value).below, c.requires.known.ranged.0.size-high)))))
 
 index-lt : (c : After-natural) → c.natural.result < ((c.args.x)).layout.size
 index-lt c =
@@ -68,8 +67,12 @@ owner-dealt c =
     record {
       sized = c.requires.known.ranged.0;
       processor = subst (λ (q : ℕ). q < ((c.args.x)).layout.processors) (sym c.home_of-home.ensures.0)
-          (dealt ((c.args.x)) c.args.sizes.now c.requires.known c.natural.result ((omega (arith, (c.natural.ensures ∙ ap nat (back_as w64 ((let fits : SFits w64 c.args.index.0 = record { sfits = c.struct_told-1.given.0.1 } in
-    λ i. to_z-of_z w64 c.args.index.0 fits i -ℤ bound-read x.lower c.requires.known.ranged.1 i)) ((small-fits w64 (c.args.index.0 -ℤ x.lower) (omega (arith, ap nat_abs inside.whole, inside.below, c.requires.known.ranged.0.size-high)))))), ((index_below (c.args.x) c.args.index.0 c.requires.index_value)).below))));
+          (dealt ((c.args.x)) c.args.sizes.now c.requires.known c.natural.result ((omega (
+            arith,
+            (c.natural.ensures ∙ ap nat (back_as w64 ((let fits : SFits w64 c.args.index.0 = record { sfits = c.struct_told-1.given.0.1 } in
+                λ i. to_z-of_z w64 c.args.index.0 fits i -ℤ bound-read (c.args.x).lower c.requires.known.ranged.1 i)) ((small-fits w64 (c.args.index.0 -ℤ (c.args.x).lower) (omega (arith, ap nat_abs (index_below (c.args.x) c.args.index.0 c.requires.index_value).whole, (index_below (c.args.x) c.args.index.0 c.requires.index_value).below, c.requires.known.ranged.0.size-high)))))),
+            ((index_below (c.args.x) c.args.index.0 c.requires.index_value)).below,
+          ))));
     }
 
 pub part_of-part-requires : goal.part_of-part-requires

@@ -2,7 +2,6 @@
 use Prim.Native.Nat.{ℕ, ◌+◌, ◌*◌, ◌≤◌}
 use native.Mathlib.Nat.{le_refl}
 use native.Mathlib.Omega.{arith}
-use borrow.Author.Rules.{rules}
 use Rattle.numbers.proofs.Division.{product_le}
 use Rattle.grid.proofs.elements.numbered.Goals as goal
 use Rattle.grid.proofs.elements.numbered.Goals.{Start}

@@ -1,9 +1,7 @@
 -- `owned_on` meets its contract.
 use mathlib.Core.Path.{◌≡◌, sym, ap, ◌∙◌}
-use mathlib.Core.Bool.{Bool, true, ◌&&◌}
+use mathlib.Core.Bool.{true, ◌&&◌}
 use native.Mathlib.Omega.{arith}
-use borrow.Author.Rules.{rules}
-use borrow.Author.Tests.{not-true, not-false}
 use lib.IntN.{ℤ}
 use mir.Syntax.{w64}
 use mir.ValLaws.{to_z-of_z}
@@ -11,7 +9,6 @@ use Rattle.grid.specs.Dimensions.{array_in}
 use Rattle.grid.specs.Answers.{numbered, has_index, from_lower_in, kept_in, ownership_on}
 use Rattle.grid.proofs.ThreeLaws.{number-high}
 use Rattle.grid.proofs.ElementLaws.{first-in, second-in, third-in, coordinates, some-held, address-high, owned-so}
-use mathlib.Core.Bool.{not}
 use Rattle.grid.proofs.elements.owned_on.Goals as goal
 use Rattle.grid.proofs.elements.owned_on.Goals.{After-are_indices, After-kept_at-plane, After-m-1}
 
@@ -26,7 +23,7 @@ asked c =
 
 pub returns-then-not-are_indices : goal.returns-then-not-are_indices
 unfolding ownership_on
-returns-then-not-are_indices c = record { result_value = rw (sym (asked (goal.at.returns-then-not-are_indices c).After-are_indices) ∙ not-true _ (ap not c.if-not-are_indices.true)); told_apart = (omega arith, tt) }
+returns-then-not-are_indices c = record { result_value = rw (sym (asked (goal.at.returns-then-not-are_indices c).After-are_indices) ∙ c.if-not-are_indices.true); told_apart = (omega arith, tt) }
 
 yes : (c : After-m-1) → (has_index c.args.x.first c.args.first && has_index c.args.x.second c.args.second && has_index c.args.x.third c.args.third) ≡ true
 yes c =
@@ -34,7 +31,7 @@ yes c =
     let j = to_z-of_z w64 c.args.second c.ranges.second in
     let k = to_z-of_z w64 c.args.third c.ranges.third in
     c.are_indices.ensures
-    ∙ (λ t. has_index c.args.x.first (i t) && has_index c.args.x.second (j t) && has_index c.args.x.third (k t)))) ∙ not-false _ (ap not c.if-not-are_indices.false)
+    ∙ (λ t. has_index c.args.x.first (i t) && has_index c.args.x.second (j t) && has_index c.args.x.third (k t)))) ∙ c.if-not-are_indices.false
 
 pub kept_at-near-requires : goal.kept_at-near-requires
 kept_at-near-requires c =
@@ -85,5 +82,8 @@ numbered-requires-2 c =
 pub returns : goal.returns
 returns c =
     let owner = c.numbered.ensures ∙ (λ t. numbered (near (goal.at.returns c).After-kept_at-plane t).processor c.args.x.first.layout.processors (row (goal.at.returns c).After-kept_at-plane t).processor c.args.x.second.layout.processors (plane (goal.at.returns c).After-kept_at-plane t).processor) in
-    let address = c.numbered-2.ensures ∙ (λ t. numbered (near (goal.at.returns c).After-kept_at-plane t).address.0 (near (goal.at.returns c).After-kept_at-plane t).elements (row (goal.at.returns c).After-kept_at-plane t).address.0 (row (goal.at.returns c).After-kept_at-plane t).elements (plane (goal.at.returns c).After-kept_at-plane t).address.0) in record { result_value = (λ t. record { refusal = 0; processor = owner t; address = address t })
-          ∙ owned-so c.args.x c.args.b.now c.args.c.now c.args.d.now c.requires c.args.first c.args.second c.args.third (yes (goal.at.returns c).After-m-1); told_apart = tt }
+    let address = c.numbered-2.ensures ∙ (λ t. numbered (near (goal.at.returns c).After-kept_at-plane t).address.0 (near (goal.at.returns c).After-kept_at-plane t).elements (row (goal.at.returns c).After-kept_at-plane t).address.0 (row (goal.at.returns c).After-kept_at-plane t).elements (plane (goal.at.returns c).After-kept_at-plane t).address.0) in record {
+      result_value = (λ t. record { refusal = 0; processor = owner t; address = address t })
+          ∙ owned-so c.args.x c.args.b.now c.args.c.now c.args.d.now c.requires c.args.first c.args.second c.args.third (yes (goal.at.returns c).After-m-1);
+      told_apart = tt;
+    }

@@ -4,7 +4,6 @@ use Prim.Native.Nat.{ℕ, ◌*◌, ◌≤◌, ◌<◌}
 use mathlib.Core.Path.{ap}
 use native.Mathlib.Nat.{mul-le-mul_right, pos_of_ne-zero}
 use native.Mathlib.Omega.{arith}
-use borrow.Author.Rules.{rules}
 use borrow.Author.Tests.{lt-leb, le-leb}
 use Rattle.numbers.proofs.Division.{product_le}
 use Rattle.grid.proofs.ranks.products_fit.Goals as goal

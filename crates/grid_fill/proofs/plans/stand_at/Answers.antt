@@ -23,11 +23,11 @@ t c =
 
 abbrev m : (c : Then-place-product_of) → ℕ
 m c =
-    p.first.section.count
+    (p c).first.section.count
 
 abbrev n : (c : Then-place-product_of) → ℕ
 n c =
-    p.second.section.count
+    (p c).second.section.count
 
 inside : (c : Then-place-product_of) → (t c) < positions_in (shares_from (p c))
 inside c =

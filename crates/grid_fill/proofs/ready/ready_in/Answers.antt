@@ -64,11 +64,11 @@ all_in c =
 -- each coordinate is a processor of its dimension
 first-low : (c : After-shares_of-shares) → c.shares_of-shares.result.first.processor < c.args.x.first.section.layout.processors
 first-low c =
-    subst (λ (s : Shares). s.first.processor < c.args.x.first.section.layout.processors) (sym c.shares_of-shares.ensures) all_in.first.processor
+    subst (λ (s : Shares). s.first.processor < c.args.x.first.section.layout.processors) (sym c.shares_of-shares.ensures) (all_in c).first.processor
 
 second-low : (c : After-shares_of-shares) → c.shares_of-shares.result.second.processor < c.args.x.second.section.layout.processors
 second-low c =
-    subst (λ (s : Shares). s.second.processor < c.args.x.second.section.layout.processors) (sym c.shares_of-shares.ensures) all_in.second.processor
+    subst (λ (s : Shares). s.second.processor < c.args.x.second.section.layout.processors) (sym c.shares_of-shares.ensures) (all_in c).second.processor
 
 pub is_place-requires : goal.is_place-requires
 is_place-requires c = subst AllFitted (sym c.shares_of-shares.ensures) (all_in (goal.at.is_place-requires c).After-shares_of-shares)
@@ -81,12 +81,12 @@ place-said c =
 
 pub returns-then-not-is_place : goal.returns-then-not-is_place
 unfolding ready_in first_no
-returns-then-not-is_place c = rw (eighth (goal.at.returns-then-not-is_place c).After-natural, sym (place-said (goal.at.returns-then-not-is_place c).After-is_place) ∙ not-true _ (ap not c.if-not-is_place.true))
+returns-then-not-is_place c = rw (eighth (goal.at.returns-then-not-is_place c).After-natural, sym (place-said (goal.at.returns-then-not-is_place c).After-is_place) ∙ c.if-not-is_place.true)
 
 tenth : (c : Else-not-is_place) → is_place_by (((shares_at c) (nat c.args.processor))) c.args.place ≡ true
 tenth c =
     sym ((read_of w64 (is_place_by c.shares_of-shares.result) c.args.place c.ranges.place c.is_place.ensures
-    ∙ (λ i. is_place_by ((c.shares_of-shares.ensures ∙ ap (shares_at c) ((read_of w64 nat c.args.processor c.ranges.processor c.natural.ensures))) i) c.args.place))) ∙ not-false _ (ap not c.if-not-is_place.false)
+    ∙ (λ i. is_place_by ((c.shares_of-shares.ensures ∙ ap (shares_at c) ((read_of w64 nat c.args.processor c.ranges.processor c.natural.ensures))) i) c.args.place))) ∙ c.if-not-is_place.false
 
 pub returns-then-not-within : goal.returns-then-not-within
 unfolding ready_in first_no

@@ -49,7 +49,7 @@ bounds : (c : After-addresses_from-r) → ((count c) * c.args.w.entries ≤ leng
 bounds c =
     let e = mul-le-mul_right c.args.w.entries (few c) in
     let c = mul-le-mul_right c.args.w.tries (few c) in
-    (omega (arith, e, copying.room), omega (arith, c, copying.tries), omega (arith, e, copying.room))
+    (omega (arith, e, (copying c).room), omega (arith, c, (copying c).tries), omega (arith, e, (copying c).room))
 
 pub put_rows-requires : goal.put_rows-requires
 put_rows-requires c =

@@ -50,7 +50,7 @@ addresses c =
 
 product : (c : After-step_from-row) → c.args.p.rows * c.args.plane.address.0 ≤ 4611686014132420609
 product c =
-    small_product c.args.p.rows c.args.plane.address.0 begun.planned.few addresses.1
+    small_product c.args.p.rows c.args.plane.address.0 (begun c).planned.few (addresses c).1
 
 pub overflow_mul-base : goal.overflow_mul-base
 overflow_mul-base c = omega (arith, product (goal.at.overflow_mul-base c).After-step_from-row)

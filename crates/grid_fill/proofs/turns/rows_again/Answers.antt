@@ -30,5 +30,5 @@ returns c =
     (
       omega (arith, c.least-by_room.ensures.0, c.least.ensures.0),
       parts _ c.args.w.entries c.args.room (omega (arith, c.least-by_room.ensures.1, c.least.ensures.0)),
-      λ h. (not-false _ (ap not c.if-not-enters.false), omega (arith, c.if-w-eq0.false), omega (arith, c.requires, parts _ c.args.w.tries _ c.least.ensures.1)),
+      λ h. (c.if-not-enters.false, omega (arith, c.if-w-eq0.false), omega (arith, c.requires, parts _ c.args.w.tries _ c.least.ensures.1)),
     )

@@ -26,7 +26,7 @@ use Rattle.grid_section.proofs.LineLaws.{sections_with}
 use Rattle.grid_section.proofs.LineAnswers.{sound, rank-refused, first-refused, second-refused, third-refused, all-passed}
 use mathlib.Core.Bool.{not}
 use Rattle.grid_section.proofs.lines.ask_lines.Goals as goal
-use Rattle.grid_section.proofs.lines.ask_lines.Goals.{After-ask_section-asked-2, After-ask_section-asked-3, After-within, Else-not-within, In-By-2, In-By-asked-3}
+use Rattle.grid_section.proofs.lines.ask_lines.Goals.{After-ask_section-asked-2, After-ask_section-asked-3, After-within, Else-not-within, In-By, In-By-asked}
 
 answered : (x : grid_sections.GridSection) (b c d : List ℕ) {r : AskedLines} → r ≡ asked_of x b c d → (r ≡ asked_of x b c d) × Sound r
 answered x b c d e = (e, subst Sound (sym e) (sound x b c d))
@@ -52,15 +52,15 @@ returns-in_default c =
     (sym c.ask_section-asked.ensures.value ∙ c.in_default.is)) in record { value = whole.0; sound = whole.1 }
 
 -- it passed
-abbrev k : (c : In-By-2) → Strided
+abbrev k : (c : In-By) → Strided
 k c =
     c.in-By.k
 
-first_by : (c : In-By-2) → answers.asked_of (section_with c.args.x.first c.args.b.now) ≡ section.By (k c)
+first_by : (c : In-By) → answers.asked_of (section_with c.args.x.first c.args.b.now) ≡ section.By (k c)
 first_by c =
     sym c.ask_section-asked.ensures.value ∙ c.in-By.is
 
-first-bounded : (c : In-By-2) → Bounded (k c)
+first-bounded : (c : In-By) → Bounded (k c)
 first-bounded c =
     subst answers.Sound c.in-By.is c.ask_section-asked.ensures.sound
 
@@ -79,21 +79,21 @@ pub returns-in_default-asked : goal.returns-in_default-asked
 returns-in_default-asked c =
     let whole = answered c.args.x c.args.b.now c.args.c.now c.args.d.now
     (ap Refused (c.refusal_of-in_default-asked.ensures ∙ ap refusal_in c.in_default-asked.is)
-    ∙ second-refused c.args.x c.args.b.now c.args.c.now c.args.d.now (ranked (in-rank c)) _ (first_by (goal.at.returns-in_default-asked c).In-By-2) _
+    ∙ second-refused c.args.x c.args.b.now c.args.c.now c.args.d.now (ranked (in-rank c)) _ (first_by (goal.at.returns-in_default-asked c).In-By) _
     (sym (second-asked (goal.at.returns-in_default-asked c).After-ask_section-asked-2) ∙ c.in_default-asked.is)) in record { value = whole.0; sound = whole.1 }
 
 -- it passed
-abbrev l : (c : In-By-asked-3) → Strided
+abbrev l : (c : In-By-asked) → Strided
 l c =
     c.in-By-asked.l
 
-second-by : (c : In-By-asked-3) → answers.asked_of (sections_with c.args.x c.args.b.now c.args.c.now c.args.d.now).second ≡ section.By (l c)
+second-by : (c : In-By-asked) → answers.asked_of (sections_with c.args.x c.args.b.now c.args.c.now c.args.d.now).second ≡ section.By (l c)
 second-by c =
     sym ((c.ask_section-asked-2.ensures.value ∙ ap (λ (y : sections.Section). answers.asked_of (section_with y c.args.c.now)) (c.section_to-second.ensures
     ∙ ap (λ (r : ℤ). section_to r (pos 2) c.args.x.second)
     (to_z-of_z w64 c.args.x.rank (rank-fits (in-rank c).before))))) ∙ c.in-By-asked.is
 
-second-bounded : (c : In-By-asked-3) → Bounded (l c)
+second-bounded : (c : In-By-asked) → Bounded (l c)
 second-bounded c =
     subst answers.Sound c.in-By-asked.is c.ask_section-asked-2.ensures.sound
 
@@ -112,7 +112,7 @@ pub returns-in_default-asked-2 : goal.returns-in_default-asked-2
 returns-in_default-asked-2 c =
     let whole = answered c.args.x c.args.b.now c.args.c.now c.args.d.now
     (ap Refused (c.refusal_of-in_default-asked-2.ensures ∙ ap refusal_in c.in_default-asked-2.is)
-    ∙ third-refused c.args.x c.args.b.now c.args.c.now c.args.d.now (ranked (in-rank c)) _ (first_by (goal.at.returns-in_default-asked-2 c).In-By-2) _ (second-by (goal.at.returns-in_default-asked-2 c).In-By-asked-3) _
+    ∙ third-refused c.args.x c.args.b.now c.args.c.now c.args.d.now (ranked (in-rank c)) _ (first_by (goal.at.returns-in_default-asked-2 c).In-By) _ (second-by (goal.at.returns-in_default-asked-2 c).In-By-asked) _
     (sym (third-asked (goal.at.returns-in_default-asked-2 c).After-ask_section-asked-3) ∙ c.in_default-asked-2.is)) in record { value = whole.0; sound = whole.1 }
 
 line-bounded : {w : Strided} {d : Dealing} {y : Line} → y ≡ record { section = w; dealing = d } → Bounded w → Bounded y.section
@@ -122,14 +122,14 @@ pub limited-requires : goal.limited-requires
 limited-requires c =
     (
       line-bounded c.line_of.ensures (first-bounded (first-passed c)),
-      line-bounded c.line_of-2.ensures (second-bounded (goal.at.limited-requires c).In-By-asked-3),
+      line-bounded c.line_of-2.ensures (second-bounded (goal.at.limited-requires c).In-By-asked),
       line-bounded c.line_of-3.ensures (subst answers.Sound c.in-By-asked-2.is c.ask_section-asked-3.ensures.sound),
     )
 
 pub returns : goal.returns
 returns c =
-    let second = c.line_of-2.ensures ∙ ap (line_on (l (goal.at.returns c).In-By-asked-3)) (second_is (goal.at.returns c).After-ask_section-asked-2) in
+    let second = c.line_of-2.ensures ∙ ap (line_on (l (goal.at.returns c).In-By-asked)) (second_is (goal.at.returns c).After-ask_section-asked-2) in
     let third = c.line_of-3.ensures ∙ ap (line_on c.in-By-asked-2.m) (third-is (goal.at.returns c).After-ask_section-asked-3) in let whole = answered c.args.x c.args.b.now c.args.c.now c.args.d.now
     (c.limited.ensures ∙ (λ i. limited_by (c.line_of.ensures i) (second i) (third i))
-    ∙ all-passed c.args.x c.args.b.now c.args.c.now c.args.d.now (ranked (in-rank c)) _ (first_by (goal.at.returns c).In-By-2) _ (second-by (goal.at.returns c).In-By-asked-3) _
+    ∙ all-passed c.args.x c.args.b.now c.args.c.now c.args.d.now (ranked (in-rank c)) _ (first_by (goal.at.returns c).In-By) _ (second-by (goal.at.returns c).In-By-asked) _
     (sym (third-asked (goal.at.returns c).After-ask_section-asked-3) ∙ c.in-By-asked-2.is)) in record { value = whole.0; sound = whole.1 }

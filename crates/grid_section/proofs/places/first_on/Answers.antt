@@ -22,15 +22,15 @@ s c =
 
 abbrev m : (c : After-first_of-v) → ℕ
 m c =
-    s.first.section.count
+    (s c).first.section.count
 
 abbrev n : (c : After-first_of-v) → ℕ
 n c =
-    s.second.section.count
+    (s c).second.section.count
 
 abbrev o : (c : After-first_of-v) → ℕ
 o c =
-    s.third.section.count
+    (s c).third.section.count
 
 abbrev t : (c : After-first_of-v) → ℕ
 t c =
@@ -66,23 +66,23 @@ fitted : (c : Then-v-o) → AllFitted ((c.args.s))
 fitted c =
     c.requires
 
-first-lt : (c : Then-v-o) → (c.first_of-t.result.0) < (s.first.section.count)
+first-lt : (c : Then-v-o) → (c.first_of-t.result.0) < ((c.args.s).first.section.count)
 first-lt c =
     c.else-t-m.true
 
-second_lt : (c : Then-v-o) → (c.first_of-u.result.0) < (s.second.section.count)
+second_lt : (c : Then-v-o) → (c.first_of-u.result.0) < ((c.args.s).second.section.count)
 second_lt c =
     ltb-true _ _ c.if-u-n.true
 
-third-lt : (c : Then-v-o) → (c.first_of-v.result.0) < (s.third.section.count)
+third-lt : (c : Then-v-o) → (c.first_of-v.result.0) < ((c.args.s).third.section.count)
 third-lt c =
     ltb-true _ _ c.if-v-o.true
 
-other-low : (c : Then-v-o) → (c.first_of-u.result.0) + (s.second.section.count) * (c.first_of-v.result.0) ≤ 4611686014132420609
+other-low : (c : Then-v-o) → (c.first_of-u.result.0) + ((c.args.s).second.section.count) * (c.first_of-v.result.0) ≤ 4611686014132420609
 other-low c =
     omega (arith, rest_lt c (fitted c) (first-lt c) (second_lt c) (third-lt c), rest-low c (fitted c) (first-lt c) (second_lt c) (third-lt c))
 
-all-low : (c : Then-v-o) → (c.first_of-t.result.0) + (s.first.section.count) * ((c.first_of-u.result.0) + (s.second.section.count) * (c.first_of-v.result.0)) < 2147483647
+all-low : (c : Then-v-o) → (c.first_of-t.result.0) + ((c.args.s).first.section.count) * ((c.first_of-u.result.0) + ((c.args.s).second.section.count) * (c.first_of-v.result.0)) < 2147483647
 all-low c =
     place-low c (fitted c) (first-lt c) (second_lt c) (third-lt c)
 

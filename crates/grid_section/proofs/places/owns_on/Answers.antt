@@ -47,7 +47,7 @@ pub owns_at-requires : goal.owns_at-requires
 owns_at-requires c = record { fitted = c.requires.0.first; below = first (goal.at.owns_at-requires c).Start }
 
 pub returns-then-not-owns_at : goal.returns-then-not-owns_at
-returns-then-not-owns_at c = rw (sym c.owns_at.ensures ∙ not-true _ (ap not c.if-not-owns_at.true))
+returns-then-not-owns_at c = rw (sym c.owns_at.ensures ∙ c.if-not-owns_at.true)
 
 pub nonzero_rem-row : goal.nonzero_rem-row
 nonzero_rem-row c = omega (arith, second (goal.at.nonzero_rem-row c).Start)
@@ -58,8 +58,8 @@ owns_at-requires-2 c = record { fitted = c.requires.0.second; below = second (go
 pub returns-then-not-owns_at-2 : goal.returns-then-not-owns_at-2
 returns-then-not-owns_at-2 c =
     rw (
-      sym c.owns_at.ensures ∙ not-false _ (ap not c.if-not-owns_at.false),
-      sym c.owns_at-2.ensures ∙ not-true _ (ap not c.if-not-owns_at-2.true),
+      sym c.owns_at.ensures ∙ c.if-not-owns_at.false,
+      sym c.owns_at-2.ensures ∙ c.if-not-owns_at-2.true,
     )
 
 pub nonzero_div-row-2 : goal.nonzero_div-row-2
@@ -71,7 +71,7 @@ owns_at-requires-3 c = record { fitted = c.requires.0.third; below = third (goal
 pub returns : goal.returns
 returns c =
     rw (
-      sym c.owns_at.ensures ∙ not-false _ (ap not c.if-not-owns_at.false),
-      sym c.owns_at-2.ensures ∙ not-false _ (ap not c.if-not-owns_at-2.false),
+      sym c.owns_at.ensures ∙ c.if-not-owns_at.false,
+      sym c.owns_at-2.ensures ∙ c.if-not-owns_at-2.false,
     )
     c.owns_at-3.ensures

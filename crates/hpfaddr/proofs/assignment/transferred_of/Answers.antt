@@ -28,4 +28,4 @@ fields_of-requires c = (with_size TransferredFits (answer (goal.at.fields_of-req
 pub returns : goal.returns
 returns c =
     let a = with_size TransferredFits (c.fields_of.ensures ∙ answer (goal.at.returns c).After-transfers) (transfers-small _) in
-    record { fields = (a.0, c.transfers.ensures.received_after.0 ∙ ap lists_after (read (goal.at.returns c).Start)); transferred_fits = a.1 }
+    record { fields = (a.0, c.transfers.ensures.received_after ∙ ap lists_after (read (goal.at.returns c).Start)); transferred_fits = a.1 }

@@ -11,4 +11,4 @@ fields_of-requires c = (with_size CopiedFits c.load.ensures.result_value (copyin
 pub returns : goal.returns
 returns c =
     let a = with_size CopiedFits (c.fields_of.ensures ∙ c.load.ensures.result_value) (copying-small _) in
-    record { restore_fields = (a.0, c.load.ensures.storage_after.1.0, c.load.ensures.storage_after.0); copied_fits = a.1 }
+    record { restore_fields = (a.0, c.load.ensures.words_value, c.load.ensures.storage_after); copied_fits = a.1 }

@@ -11,4 +11,4 @@ fields_of-requires c = (with_size CopiedFits c.save.ensures.result_value (copyin
 pub returns : goal.returns
 returns c =
     let a = with_size CopiedFits (c.fields_of.ensures ∙ c.save.ensures.result_value) (copying-small _) in
-    record { checkpoint_fields = (a.0, c.save.ensures.words_after.1.0, c.save.ensures.words_after.0); copied_fits = a.1 }
+    record { checkpoint_fields = (a.0, c.save.ensures.storage_value, c.save.ensures.words_after); copied_fits = a.1 }

@@ -6,13 +6,13 @@ use Rattle.section.specs.declared.place.Placed.TheVariants.{At}
 use Rattle.section.specs.Answers.{placed_as}
 use Rattle.hpfaddr.specs.Sizes.{PlacedFits}
 use Rattle.hpfaddr.proofs.sections.fields_of_place.Goals as goal
-use Rattle.hpfaddr.proofs.sections.fields_of_place.Goals.{In-At-2}
+use Rattle.hpfaddr.proofs.sections.fields_of_place.Goals.{In-At}
 
-small : (c : In-At-2) → PlacedFits (placed_as (At c.in-At.t))
+small : (c : In-At) → PlacedFits (placed_as (At c.in-At.t))
 small c = subst PlacedFits (ap placed_as c.in-At.is) c.requires
 
 pub overflow_cast-result : goal.overflow_cast-result
-overflow_cast-result c = record { fits = omega (arith, small (goal.at.overflow_cast-result c).In-At-2) }
+overflow_cast-result c = record { fits = omega (arith, small (goal.at.overflow_cast-result c).In-At) }
 
 pub returns-in-At : goal.returns-in-At
 returns-in-At c = sym (ap placed_as c.in-At.is)

@@ -1,7 +1,6 @@
 -- `cells_below` meets its contract: it is the law of a processor's cells, and no number on the way is above c. Assumes nothing.
 use native.Mathlib.Nat.{le_of_lt}
 use native.Mathlib.Omega.{arith}
-use borrow.Author.Rules.{rules}
 use Rattle.model.proofs.SizedLaws.{blocks-le, course-high, course-pos}
 use Rattle.mapping.proofs.CellLaws.{cells-below, cells-le}
 use Rattle.mapping.proofs.dealing.cells_below.Goals as goal

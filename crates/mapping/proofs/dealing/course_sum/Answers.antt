@@ -1,6 +1,5 @@
 -- `course_sum` meets its contract: the floor sum over the elements' cells is within its bounds. Assumes nothing.
 use native.Mathlib.Omega.{arith}
-use borrow.Author.Rules.{rules}
 use Rattle.model.proofs.SizedLaws.{blocks-le, course-high}
 use Rattle.mapping.proofs.CourseSums.{sum-bounds}
 use Rattle.mapping.proofs.dealing.course_sum.Goals as goal

@@ -1,10 +1,7 @@
 -- `element_by_halving` meets its contract: processor q has at most x elements below low, and more than x below high.
 -- The measure is how far low and high lie apart. Assumes nothing.
 use Prim.Native.Nat.{◌≤◌, ◌<◌, ◌-◌}
-use mathlib.Core.Path.{sym}
-use native.Mathlib.Omega.{arith}
 use Rattle.model.specs.Ownership.{owner_of, held}
-use Rattle.model.proofs.HeldLaws.{held_none, held-le, back_at}
 use Rattle.mapping.proofs.dealing.element_by_halving.Given as goal
 
 abbrev pub invariant-loop-low : goal.invariant-loop-low

@@ -1,6 +1,5 @@
 -- `held_by_sums` meets its contract: a processor's elements are the difference of two sums. Assumes nothing.
 use native.Mathlib.Omega.{arith}
-use borrow.Author.Rules.{rules}
 use Rattle.mapping.proofs.CourseSums.{held-sums}
 use Rattle.mapping.proofs.dealing.held_by_sums.Goals as goal
 

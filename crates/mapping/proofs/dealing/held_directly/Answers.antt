@@ -1,7 +1,6 @@
 -- `held_directly` meets its contract: with stride 1 a processor's elements sit on its cells from the offset on. Assumes nothing.
 use mathlib.Core.Path.{ap}
 use native.Mathlib.Omega.{arith}
-use borrow.Author.Rules.{rules}
 use Rattle.mapping.proofs.CellLaws.{cells, held-direct}
 use Rattle.mapping.proofs.dealing.held_directly.Goals as goal
 

@@ -1,7 +1,6 @@
 -- `local_address` meets its contract: an address is the count of the owner's elements below. Assumes nothing.
 use mathlib.Core.Path.{sym, ap, ◌∙◌}
 use native.Mathlib.Omega.{arith}
-use borrow.Author.Rules.{rules}
 use Rattle.model.specs.Ownership.{cell_owner, owner_of}
 use Rattle.model.proofs.AddressLaws.{rank_is}
 use Rattle.model.proofs.CellOwners.{cell-owner-lt}

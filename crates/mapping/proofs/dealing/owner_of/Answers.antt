@@ -1,6 +1,5 @@
 -- `owner_of` meets its contract. Assumes nothing.
 use mathlib.Core.Path.{refl}
-use borrow.Author.Rules.{rules}
 use Rattle.model.specs.Ownership.{cell_owner}
 use Rattle.mapping.proofs.dealing.owner_of.Goals as goal
 

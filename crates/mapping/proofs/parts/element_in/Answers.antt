@@ -1,6 +1,5 @@
 -- `element_in` meets its contract.
 use mathlib.Core.Path.{sym, ap, ◌∙◌, subst}
-use borrow.Author.Rules.{rules}
 use Prim.Native.Nat.{◌<◌}
 use Rattle.mapping.specs.declared.parts.Part.{Part}
 use Rattle.mapping.specs.Parts.{held_in, found_in, Low}

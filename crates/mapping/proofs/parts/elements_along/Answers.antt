@@ -1,6 +1,5 @@
 -- `elements_along` meets its contract.
 use native.Mathlib.Omega.{arith}
-use borrow.Author.Rules.{rules}
 use Rattle.mapping.proofs.PartLaws.{cut-rises}
 use Rattle.mapping.proofs.parts.elements_along.Goals as goal
 

@@ -1,7 +1,6 @@
 -- `elements_in` meets its contract.
 use mathlib.Core.Path.{sym, ap, ◌∙◌, subst}
 use native.Mathlib.Nat.{le_refl}
-use borrow.Author.Rules.{rules}
 use Rattle.mapping.specs.Parts.{held_in, Low}
 use Rattle.mapping.proofs.parts.elements_in.Goals as goal
 

@@ -1,7 +1,6 @@
 -- `home_in_blocks` meets its contract.
 use mathlib.Core.Path.{ap, ◌∙◌}
 use native.Mathlib.Omega.{arith}
-use borrow.Author.Rules.{rules}
 use Rattle.model.specs.Ownership.{cell_owner, owner_of}
 use Rattle.mapping.proofs.parts.home_in_blocks.Goals as goal
 

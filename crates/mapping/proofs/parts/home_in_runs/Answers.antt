@@ -57,7 +57,7 @@ home : (c : After-owner_in-owner) → let l : Layout = c.args.l in
     let q : ℕ = owner_for l d c.args.i.0 in
     OneRun (owner_for l d) l.size q (index_from l (run_start rs q)) (index_from l (run_start rs (suc q)))
 home c =
-    one-run c.args.l c.requires.1 (sizes_of c.args.sizes.now) (length c.args.sizes.now % 4) ((rw (listed c).words (listed c).covers)) _
+    one-run c.args.l c.requires.1 (sizes_of c.args.sizes.now) (length c.args.sizes.now % 4) (let l = fitting c.args.l.cells c.args.l.processors c.args.sizes.now c.requires.0 in rw l.words l.covers) _
 
 pub index_from-first-requires : goal.index_from-first-requires
 index_from-first-requires c = (c.requires.1, omega (arith, starts (goal.at.index_from-first-requires c).After-owner_in-owner, (owner-run (runs (goal.at.index_from-first-requires c).After-owner_in-owner) (cell (goal.at.index_from-first-requires c).After-owner_in-owner) (in-a-run (goal.at.index_from-first-requires c).Start)).from, in-template c.args.l c.requires.1 c.args.i.0 c.requires.2, c.requires.1.cells-high))
@@ -73,8 +73,7 @@ pub overflow_sub-x : goal.overflow_sub-x
 overflow_sub-x c = omega (arith, first-is (goal.at.overflow_sub-x c).After-index_from-first, ((home (goal.at.overflow_sub-x c).After-owner_in-owner).only c.args.i.0 c.requires.2 refl).0)
 
 pub returns : goal.returns
-returns c =
-    (
-      owner-is (goal.at.returns c).After-owner_in-owner ∙ ap (λ (ws : List ℕ). run_owner ws (cell (goal.at.returns c).After-owner_in-owner)) (sym (listed (goal.at.returns c).Start).words),
-      ap (λ (n : ℕ). c.args.i.0 - n) (first-is (goal.at.returns c).After-index_from-first) ∙ sym (run-rank (home (goal.at.returns c).After-owner_in-owner) c.args.i.0 c.requires.2 refl),
-    )
+returns c = (
+  owner-is (goal.at.returns c).After-owner_in-owner ∙ ap (λ (ws : List ℕ). run_owner ws (cell (goal.at.returns c).After-owner_in-owner)) (sym (listed (goal.at.returns c).Start).words),
+  ap (λ (n : ℕ). c.args.i.0 - n) (first-is (goal.at.returns c).After-index_from-first) ∙ sym (run-rank (home (goal.at.returns c).After-owner_in-owner) c.args.i.0 c.requires.2 refl),
+)

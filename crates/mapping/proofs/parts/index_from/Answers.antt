@@ -1,7 +1,6 @@
 -- `index_from` meets its contract.
 use mathlib.Core.Path.{sym}
 use native.Mathlib.Omega.{arith}
-use borrow.Author.Rules.{rules}
 use Rattle.mapping.proofs.PartLaws.{cut-none}
 use Rattle.mapping.proofs.parts.index_from.Goals as goal
 

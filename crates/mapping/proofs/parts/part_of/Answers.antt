@@ -3,7 +3,6 @@ use Prim.Native.Nat.{ℕ, suc}
 use mathlib.Core.Path.{sym, ap, ◌∙◌, subst}
 use mathlib.Core.List.{List}
 use native.Mathlib.Omega.{arith}
-use borrow.Author.Rules.{rules}
 use Rattle.model.specs.declared.Dealing.{Dealing}
 use Rattle.model.specs.Mappings.{dealing_with}
 use Rattle.model.specs.Ownership.{run_start}
@@ -29,5 +28,8 @@ returns-in-Cyclic c = record { value = sym (ap (λ (d : Dealing). part_in (deali
 
 pub returns-in-GenBlock : goal.returns-in-GenBlock
 returns-in-GenBlock c =
-    let same = ap (λ (ws : List ℕ). Run (record { start = record { 0 = run_start ws c.args.q }; end = record { 0 = run_start ws (suc c.args.q) } })) (sym (listed (goal.at.returns-in-GenBlock c).In-GenBlock).words) in record { value = ap Run c.run_of.ensures.value ∙ same
-          ∙ sym (ap (λ (d : Dealing). part_in (dealing_with d c.args.sizes.now) c.args.q) c.in-GenBlock.is); low = c.run_of.ensures.start_le_end }
+    let same = ap (λ (ws : List ℕ). Run (record { start = record { 0 = run_start ws c.args.q }; end = record { 0 = run_start ws (suc c.args.q) } })) (sym (listed (goal.at.returns-in-GenBlock c).In-GenBlock).words) in record {
+      value = ap Run c.run_of.ensures.value ∙ same
+          ∙ sym (ap (λ (d : Dealing). part_in (dealing_with d c.args.sizes.now) c.args.q) c.in-GenBlock.is);
+      low = c.run_of.ensures.start_le_end;
+    }

@@ -1,6 +1,5 @@
 -- `ask_mapping` meets its contract: a field of 64 bits is read back as the number it is.
 use mathlib.Core.Path.{◌∙◌}
-use borrow.Author.Rules.{rules}
 use mir.Syntax.{w64}
 use mir.ValLaws.{to_z-of_z}
 use Rattle.model.specs.Mappings.{dealing_with}

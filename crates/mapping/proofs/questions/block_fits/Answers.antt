@@ -1,7 +1,6 @@
 -- `block_fits` meets its contract.
 use mathlib.Core.Path.{sym, ap, ◌∙◌}
 use mathlib.Core.List.{[]}
-use borrow.Author.Rules.{rules}
 use lib.IntN.{pos}
 use mir.Syntax.{w64}
 use Rattle.numbers.proofs.Signed.{read_of}

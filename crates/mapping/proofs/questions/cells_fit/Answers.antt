@@ -29,17 +29,15 @@ cell_under-requires c =
     c.requires.first
 
 -- the cell under an index, as `cell_under` gives it
-under : (s : tie.Start) (j : ℤ) (z : ℤ) {y : ℤ} → back w64 z ≡ y → y ≡ back w64 s.args.a *ℤ j +ℤ back w64 s.args.b -ℤ back w64 s.args.origin
-    → back w64 z ≡ s.args.a *ℤ j +ℤ s.args.b -ℤ s.args.origin
-under s j z r e =
-    let a = to_z-of_z w64 s.args.a s.ranges.a in
-    let b = to_z-of_z w64 s.args.b s.ranges.b in
-    let o = to_z-of_z w64 s.args.origin s.ranges.origin in
-    r ∙ e ∙ (λ i. a i *ℤ j +ℤ b i -ℤ o i)
+under : (a b o j z : ℤ) {y : ℤ} → back w64 a ≡ a → back w64 b ≡ b → back w64 o ≡ o → back w64 z ≡ y
+    → y ≡ back w64 a *ℤ j +ℤ back w64 b -ℤ back w64 o → back w64 z ≡ a *ℤ j +ℤ b -ℤ o
+under a b o j z at bt ot r e = r ∙ e ∙ (λ i. at i *ℤ j +ℤ bt i -ℤ ot i)
 
 first : (c : After-cell_under) → back w64 c.cell_under.result ≡ (c.args.a *ℤ c.args.lower +ℤ c.args.b -ℤ c.args.origin)
 first c =
-    under c c.args.lower c.cell_under.result (to_z-of_z w64 c.cell_under.result (record { sfits = c.cell_under.type_inv }))
+    under c.args.a c.args.b c.args.origin c.args.lower c.cell_under.result
+    (to_z-of_z w64 c.args.a c.ranges.a) (to_z-of_z w64 c.args.b c.ranges.b) (to_z-of_z w64 c.args.origin c.ranges.origin)
+    (to_z-of_z w64 c.cell_under.result (record { sfits = c.cell_under.type_inv }))
     (rw (to_z-of_z w64 c.args.lower c.ranges.lower) at c.cell_under.ensures)
 
 pub returns-then-cell_under-lt0 : goal.returns-then-cell_under-lt0
@@ -48,7 +46,9 @@ returns-then-cell_under-lt0 c = rw (some (goal.at.returns-then-cell_under-lt0 c)
 
 from-0 : (c : Else-cell_under-lt0) → le_z (pos 0) (c.args.a *ℤ c.args.lower +ℤ c.args.b -ℤ c.args.origin) ≡ true
 from-0 c =
-    fails-le (c.args.a *ℤ c.args.lower +ℤ c.args.b -ℤ c.args.origin) (pos 0) (sym (ap (λ (z : ℤ). lt_z z (pos 0)) ((under c c.args.lower c.cell_under.result (to_z-of_z w64 c.cell_under.result (record { sfits = c.cell_under.type_inv }))
+    fails-le (c.args.a *ℤ c.args.lower +ℤ c.args.b -ℤ c.args.origin) (pos 0) (sym (ap (λ (z : ℤ). lt_z z (pos 0)) ((under c.args.a c.args.b c.args.origin c.args.lower c.cell_under.result
+    (to_z-of_z w64 c.args.a c.ranges.a) (to_z-of_z w64 c.args.b c.ranges.b) (to_z-of_z w64 c.args.origin c.ranges.origin)
+    (to_z-of_z w64 c.cell_under.result (record { sfits = c.cell_under.type_inv }))
     (rw (to_z-of_z w64 c.args.lower c.ranges.lower) at c.cell_under.ensures)))) ∙ c.if-cell_under-lt0.false)
 
 pub last_of-requires : goal.last_of-requires
@@ -73,6 +73,8 @@ cell_under-requires-2 c =
 pub returns : goal.returns
 unfolding cells_fit cell_under last_index
 returns c =
-    let last = under c _ c.cell_under-2.result (to_z-of_z w64 c.cell_under-2.result (record { sfits = c.cell_under-2.type_inv })) (rw (last-index (goal.at.returns c).After-last_of) at c.cell_under-2.ensures) in
+    let last = under c.args.a c.args.b c.args.origin _ c.cell_under-2.result
+    (to_z-of_z w64 c.args.a c.ranges.a) (to_z-of_z w64 c.args.b c.ranges.b) (to_z-of_z w64 c.args.origin c.ranges.origin)
+    (to_z-of_z w64 c.cell_under-2.result (record { sfits = c.cell_under-2.type_inv })) (rw (last-index (goal.at.returns c).After-last_of) at c.cell_under-2.ensures) in
     let t = to_z-of_z w64 c.args.t c.ranges.t in
     rw (some (goal.at.returns c).Else-n-lt1, from-0 (goal.at.returns c).Else-cell_under-lt0) (λ i. lt_z (last i) (t i))

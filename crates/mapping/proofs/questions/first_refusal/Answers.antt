@@ -3,13 +3,12 @@ use Prim.Native.Nat.{◌≤◌}
 use mathlib.Core.Path.{◌≡◌, sym, ◌∙◌}
 use mathlib.Core.Bool.{true}
 use mathlib.Core.List.{[]}
-use borrow.Author.Rules.{rules}
 use borrow.Author.Tests.{not-true, not-false}
 use lib.IntN.{pos, nat_abs}
 use mir.Syntax.{w64}
 use mir.ValLaws.{to_z-of_z}
 use Rattle.numbers.proofs.Tests.{both_true}
-use Rattle.model.specs.Mappings.{cyclic, dealing_with, Mapping}
+use Rattle.model.specs.Mappings.{cyclic, dealing_with}
 use Rattle.model.specs.Ownership.{cell_under, last_index, last_cell}
 use Rattle.model.specs.Questions.{AllYes, between, most, least, most_stride, first_no, bounds_fit, cells_fit}
 use Rattle.model.proofs.QuestionLaws.{size-upto, between_is, size_is}
@@ -80,7 +79,7 @@ returns-then-not-bounds_fit c =
 bounded : (c : Else-not-bounds_fit) → bounds_fit (mapping_of c.args.t c.args.p (dealing_with c.args.d []) c.args.a c.args.b c.args.n c.args.lower c.args.origin) ≡ true
 bounded c = sym (bounds c.before) ∙ not-false _ (ap not c.if-not-bounds_fit.false)
 
--- the numbers that `cells_fit_lem` is called with are in range
+-- the numbers that `cells_fit` is called with are in range
 reached : (c : Else-not-bounds_fit) → Reached c.args.a c.args.b c.args.n c.args.lower c.args.origin
 unfolding last_index
 reached c =
@@ -94,7 +93,10 @@ reached c =
         origin = w.origin;
         index = w.lower;
       };
-      size = (size-upto (between_is 0 2147483647 c.args.n (sized c)));
+      size =
+          size-upto
+          (between_is 0 2147483647 c.args.n
+          (said-yes (between (pos 0) most) c.args.n c.ranges.n c.within.ensures (ap not c.if-not-within.false)));
       last = w.last;
     }
 

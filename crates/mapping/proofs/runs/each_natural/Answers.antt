@@ -1,5 +1,5 @@
 -- `each_natural` meets its contract. The invariant: the sizes before q are 0 or more. The measure: those that are left.
-use Prim.Native.Nat.{ℕ, ◌+◌, ◌-◌, ◌≤◌, ◌<◌}
+use Prim.Native.Nat.{ℕ, ◌+◌, ◌≤◌, ◌<◌}
 use mathlib.Core.Path.{◌≡◌, sym}
 use native.Mathlib.Decide.{dec_lt}
 use native.Mathlib.Omega.{arith}
@@ -27,11 +27,10 @@ pub loop-q-smaller : goal.loop-q-smaller
 loop-q-smaller c = omega (arith, c.loop-q-test.true)
 
 pub loop-q-preserved : goal.loop-q-preserved
-loop-q-preserved c =
-    (
-      omega (arith, c.loop-q-test.true),
-      λ i h. next i (dec_lt i c.loop-q.q) h,
-    )
+loop-q-preserved c = (
+  omega (arith, c.loop-q-test.true),
+  λ i h. next i (dec_lt i c.loop-q.q) h,
+)
   where
     next : (i : ℕ) → Dec (i < c.loop-q.q) → i < c.loop-q.q + 1
         → get_or (words_of 4 c.args.sizes.now) i 0 ≤ 2147483647

@@ -1,13 +1,7 @@
 -- `each_natural` meets its contract. The invariant: the sizes before q are 0 or more. The measure: those that are left.
-use Prim.Native.Nat.{ℕ, ◌+◌, ◌-◌, ◌≤◌, ◌<◌}
-use mathlib.Core.Path.{◌≡◌, sym}
-use native.Mathlib.Decide.{dec_lt}
-use native.Mathlib.Omega.{arith}
+use Prim.Native.Nat.{ℕ, ◌-◌, ◌≤◌, ◌<◌}
 use lib.ListN.{get_or}
 use Rattle.numbers.specs.Words.{words_of}
-use Rattle.numbers.proofs.WordLaws.{words-length}
-use Rattle.model.specs.Mappings.{sizes_of}
-use Rattle.mapping.proofs.SizeLaws.{natural-yes, natural-no}
 use Rattle.mapping.proofs.runs.each_natural.Given as goal
 
 abbrev pub invariant-loop-q : goal.invariant-loop-q

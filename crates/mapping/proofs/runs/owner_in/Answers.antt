@@ -1,6 +1,6 @@
 -- `owner_in` meets its contract. The invariant: start is that of the run of q, and c is not below it. The measure: the runs that
 -- are left.
-use Prim.Native.Nat.{suc, ◌+◌, ◌-◌, ◌*◌, ◌≤◌, ◌<◌}
+use Prim.Native.Nat.{suc, ◌+◌, ◌<◌}
 use mathlib.Core.Path.{◌≡◌, refl, sym}
 use native.Mathlib.Numerals.{add-one}
 use native.Mathlib.Omega.{arith}
@@ -42,18 +42,17 @@ run_end c =
     omega (arith, next_start ws c.loop-q.q, c.loop-q.invariant.1, c.word_at.ensures)
 
 pub loop-q-preserved : goal.loop-q-preserved
-loop-q-preserved c =
-    (
-      omega (arith, c.loop-q-test.true),
-      rw (add-one c.loop-q.q) (run_end (goal.at.loop-q-preserved c).After-word_at),
-      omega (arith, c.if-cell-end.false),
-      omega (arith, c.word_at.type_inv, c.loop-q.invariant.3),
-    )
+loop-q-preserved c = (
+  omega (arith, c.loop-q-test.true),
+  rw (add-one c.loop-q.q) (run_end (goal.at.loop-q-preserved c).After-word_at),
+  omega (arith, c.if-cell-end.false),
+  omega (arith, c.word_at.type_inv, c.loop-q.invariant.3),
+)
 
 pub returns-after-loop-q : goal.returns-after-loop-q
 returns-after-loop-q c =
     let ws = words_of 4 c.args.sizes.now in
-    let all = start-end ws c.loop-q.q (omega (arith, words-length 4 c.args.sizes.now, c.loop-q-test.false)) in let whole = absurd (omega (arith, all, c.loop-q.invariant.1, c.loop-q.invariant.2, c.requires.0)) in record { processor_value = whole.0; start_value = whole.1 }
+    let all = start-end ws c.loop-q.q (omega (arith, words-length 4 c.args.sizes.now, c.loop-q-test.false)) in let none : ⊥ = omega (arith, all, c.loop-q.invariant.1, c.loop-q.invariant.2, c.requires.0) in record { processor_value = absurd none; start_value = absurd none }
 
 pub returns-then-cell-end : goal.returns-then-cell-end
 returns-then-cell-end c = let ws = words_of 4 c.args.sizes.now in record { processor_value = sym (run-owner ws c.args.c.0 c.loop-q.q (omega (arith, c.loop-q.invariant.1, c.loop-q.invariant.2)) (omega (arith, c.if-cell-end.true, run_end (goal.at.returns-then-cell-end c).After-word_at, next_start ws c.loop-q.q))); start_value = c.loop-q.invariant.1 }

@@ -1,14 +1,9 @@
 -- `owner_in` meets its contract. The invariant: start is that of the run of q, and c is not below it. The measure: the runs that
 -- are left.
-use Prim.Native.Nat.{suc, ◌+◌, ◌-◌, ◌*◌, ◌≤◌, ◌<◌}
-use mathlib.Core.Path.{◌≡◌, refl, sym}
-use native.Mathlib.Numerals.{add-one}
-use native.Mathlib.Omega.{arith}
-use Rattle.numbers.specs.Search.{sum}
+use Prim.Native.Nat.{◌-◌, ◌*◌, ◌≤◌}
+use mathlib.Core.Path.{◌≡◌}
 use Rattle.numbers.specs.Words.{words_of}
-use Rattle.numbers.proofs.WordLaws.{words-length}
 use Rattle.model.specs.Ownership.{run_start}
-use Rattle.model.proofs.RunOwners.{next_start, start-end, run-owner}
 use Rattle.mapping.proofs.runs.owner_in.Given as goal
 
 abbrev pub invariant-loop-q : goal.invariant-loop-q

@@ -2,7 +2,6 @@
 use Prim.Native.Nat.{suc, ◌+◌}
 use mathlib.Core.Path.{◌≡◌}
 use native.Mathlib.Omega.{arith}
-use borrow.Author.Rules.{rules}
 use Rattle.numbers.specs.Words.{words_of}
 use Rattle.model.specs.Ownership.{run_start}
 use Rattle.model.proofs.RunOwners.{next_start}

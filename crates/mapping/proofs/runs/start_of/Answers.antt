@@ -1,5 +1,5 @@
 -- `start_of` meets its contract. The invariant: the sum so far is that of the sizes before i. The measure: those that are left.
-use Prim.Native.Nat.{◌-◌, ◌*◌, ◌≤◌, ◌<◌}
+use Prim.Native.Nat.{◌<◌}
 use mathlib.Core.Path.{◌≡◌, refl}
 use native.Mathlib.Numerals.{add-one}
 use native.Mathlib.Omega.{arith}

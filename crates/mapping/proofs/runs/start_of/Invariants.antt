@@ -1,12 +1,8 @@
 -- `start_of` meets its contract. The invariant: the sum so far is that of the sizes before i. The measure: those that are left.
-use Prim.Native.Nat.{◌-◌, ◌*◌, ◌≤◌, ◌<◌}
-use mathlib.Core.Path.{◌≡◌, refl}
-use native.Mathlib.Numerals.{add-one}
-use native.Mathlib.Omega.{arith}
-use Rattle.numbers.specs.Search.{sum}
+use Prim.Native.Nat.{◌-◌, ◌*◌, ◌≤◌}
+use mathlib.Core.Path.{◌≡◌}
 use Rattle.numbers.specs.Words.{words_of}
 use Rattle.model.specs.Ownership.{run_start}
-use Rattle.model.proofs.RunOwners.{next_start}
 use Rattle.mapping.proofs.runs.start_of.Given as goal
 
 abbrev pub invariant-loop-i : goal.invariant-loop-i

@@ -1,7 +1,6 @@
 -- `elements_of` meets its contract: the section's array has as many elements.
 use mathlib.Core.Path.{sym, ap, ◌∙◌}
 use native.Mathlib.Nat.{le_refl, pos_of_ne-zero}
-use borrow.Author.Rules.{rules}
 use Rattle.numbers.specs.Search.{tally}
 use Rattle.numbers.proofs.SearchLaws.{tally-none}
 use Rattle.model.specs.declared.Layout.{Layout}

@@ -1,6 +1,5 @@
 -- `line_of` meets its contract.
 use mathlib.Core.Path.{ap, ◌∙◌}
-use borrow.Author.Rules.{rules}
 use Rattle.section.specs.Strides.{cell_at}
 use Rattle.section.specs.Elements.{line_of}
 use Rattle.section.proofs.ElementLaws.{lowest-lt}

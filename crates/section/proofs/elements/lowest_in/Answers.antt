@@ -1,5 +1,4 @@
 -- `lowest_in` meets its contract.
-use borrow.Author.Rules.{rules}
 use Rattle.section.proofs.elements.lowest_in.Goals as goal
 
 pub returns : goal.returns

@@ -1,6 +1,5 @@
 -- `cells_on` meets its contract: each try has its answer.
 use mathlib.Core.Path.{sym, ◌∙◌}
-use borrow.Author.Rules.{rules}
 use Rattle.section.proofs.going.cells_on.Goals as goal
 
 pub returns-then-fits_in : goal.returns-then-fits_in

@@ -1,5 +1,4 @@
 -- `fits_in` meets its contract.
-use borrow.Author.Rules.{rules}
 use Rattle.section.proofs.going.fits_in.Goals as goal
 
 pub returns-then-up : goal.returns-then-up

@@ -1,7 +1,6 @@
 -- `moved_on` meets its contract.
 use Prim.Native.Nat.{◌+◌, ◌/◌}
 use native.Mathlib.Omega.{arith}
-use borrow.Author.Rules.{rules}
 use borrow.Author.Tests.{lt-ltb, le-ltb}
 use Rattle.section.proofs.GoingLaws.{spread-pos}
 use Rattle.section.proofs.going.moved_on.Goals as goal

@@ -2,7 +2,6 @@
 use Prim.Native.Nat.{ℕ, ◌%◌}
 use mathlib.Core.Path.{sym, ap, ◌∙◌, subst}
 use native.Mathlib.Nat.{mod-lt}
-use borrow.Author.Rules.{rules}
 use Rattle.model.specs.Ownership.{column_of}
 use Rattle.model.specs.Steps.{try_both}
 use Rattle.section.specs.Answers.{Short}

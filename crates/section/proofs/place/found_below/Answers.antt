@@ -1,5 +1,4 @@
 -- `found_below` meets its contract.
-use borrow.Author.Rules.{rules}
 use borrow.Author.Tests.{lt-ltb, le-ltb}
 use Rattle.section.proofs.place.found_below.Goals as goal
 

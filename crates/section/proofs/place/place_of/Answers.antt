@@ -3,7 +3,6 @@ use Prim.Native.Nat.{ℕ, ◌+◌, ◌*◌, ◌%◌, ◌≤◌, ◌<◌}
 use mathlib.Core.Path.{ap, ◌∙◌}
 use native.Mathlib.Nat.{mod-lt, le_of_lt, pos_of_ne-zero}
 use native.Mathlib.Omega.{arith}
-use borrow.Author.Rules.{rules}
 use Rattle.section.specs.Places.{found_below}
 use Rattle.section.proofs.StridedLaws.{course-some}
 use Rattle.section.proofs.PlaceLaws.{Worked, m-pos, m-high, room, block_in_lem, place_none, place_up, place_down}

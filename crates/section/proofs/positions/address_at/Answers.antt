@@ -1,6 +1,5 @@
 -- `address_at` meets its contract.
 use mathlib.Core.Path.{ap, ◌∙◌}
-use borrow.Author.Rules.{rules}
 use Rattle.model.specs.Ownership.{owner_of, rank}
 use Rattle.section.proofs.StridedLaws.{index-inside}
 use Rattle.section.proofs.positions.address_at.Goals as goal

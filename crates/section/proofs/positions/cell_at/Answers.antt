@@ -1,7 +1,6 @@
 -- `cell_at` meets its contract.
 use mathlib.Core.Path.{ap, ◌∙◌}
 use native.Mathlib.Nat.{le_of_lt}
-use borrow.Author.Rules.{rules}
 use Rattle.model.specs.Ownership.{cell_of}
 use Rattle.section.specs.Strides.{cell_at}
 use Rattle.section.proofs.StridedLaws.{index-inside}

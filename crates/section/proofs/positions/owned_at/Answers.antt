@@ -1,7 +1,6 @@
--- `owned_at_lem` meets its contract.
+-- `owned_at` meets its contract.
 use Prim.Native.Nat.{ℕ}
 use mathlib.Core.Path.{ap, ◌∙◌}
-use borrow.Author.Rules.{rules}
 use lib.Dec.{eqb}
 use Rattle.model.specs.Ownership.{cell_owner, owner_of, owns}
 use Rattle.section.specs.Strides.{cell_at, owned_at}

@@ -1,7 +1,6 @@
 -- `in_range` meets its contract: each return rewrites by the answers on the way to it.
 use mathlib.Core.Path.{◌≡◌}
 use mathlib.Core.Bool.{true}
-use borrow.Author.Rules.{rules}
 use Rattle.model.specs.Questions.{between, most, least, in_range}
 use Rattle.mapping.proofs.Signs.{zero_bits, said-no, said-yes}
 use mathlib.Core.Bool.{not}

@@ -1,5 +1,4 @@
 -- `is_processor` meets its contract.
-use borrow.Author.Rules.{rules}
 use lib.IntN.{pos}
 use mir.Syntax.{w64}
 use Rattle.numbers.proofs.Signed.{read_of}

@@ -3,7 +3,6 @@ use Prim.Native.Nat.{◌≤◌}
 use mathlib.Core.Path.{◌≡◌, sym, ap, ◌∙◌}
 use mathlib.Core.Bool.{true}
 use native.Mathlib.Omega.{arith}
-use borrow.Author.Rules.{rules}
 use borrow.Author.Tests.{not-true, not-false}
 use lib.IntN.{ℤ, pos, nat_abs, ◌-ℤ◌}
 use lib.Signed.{le_z}
@@ -11,7 +10,6 @@ use mir.Syntax.{w64}
 use mir.Val.{SFits}
 use mir.ValLaws.{to_z-of_z}
 use Rattle.numbers.proofs.Signed.{size-sub, small-fits, back, read_of, fits-as, back_as}
-use Rattle.model.specs.declared.Triplet.{Triplet}
 use Rattle.model.specs.Ownership.{nat}
 use Rattle.model.specs.Sections.{triplet_of, count_of}
 use Rattle.model.specs.Questions.{in_range}
@@ -64,7 +62,7 @@ taken c =
 
 from-small : (c : Else-not-in_range) → nat_abs (from c) ≤ 4294967294
 from-small c =
-    omega (arith, size-sub c.args.l c.args.lower, small.lower, c.requires)
+    omega (arith, size-sub c.args.l c.args.lower, (small c).lower, c.requires)
 
 from-fits : (c : Else-not-in_range) → SFits w64 (from c)
 from-fits c =
@@ -82,10 +80,14 @@ count-is c =
 
 few : (c : After-count_of-c) → c.count_of-c.result ≤ 4294967295
 few c =
-    omega (arith, (count-is c), count_small c.args.l c.args.h c.args.s ((sym ((c.in_range.ensures ∙ ap in_range ((let l = to_z-of_z w64 c.args.l c.ranges.l in
-    let h = to_z-of_z w64 c.args.h c.ranges.h in
-    let step = to_z-of_z w64 c.args.s c.ranges.s in
-    λ i. triplet_of (l i) (h i) (step i))))) ∙ not-false _ (ap not c.if-not-in_range.false))))
+    omega (
+      arith,
+      (count-is c),
+      count_small c.args.l c.args.h c.args.s ((sym ((c.in_range.ensures ∙ ap in_range ((let l = to_z-of_z w64 c.args.l c.ranges.l in
+          let h = to_z-of_z w64 c.args.h c.ranges.h in
+          let step = to_z-of_z w64 c.args.s c.ranges.s in
+          λ i. triplet_of (l i) (h i) (step i))))) ∙ not-false _ (ap not c.if-not-in_range.false))),
+    )
 
 pub ends_in-requires : goal.ends_in-requires
 ends_in-requires c =
@@ -122,7 +124,7 @@ pub returns : goal.returns
 returns c =
     let count = count-is (goal.at.returns c).After-count_of-c in
     let first = c.natural.ensures ∙ ap nat (back_as w64 (taken (goal.at.returns c).Else-not-in_range) (from-fits (goal.at.returns c).Else-not-in_range)) in
-    let stride = read_of w64 nat_abs c.args.s c.ranges.s c.type_size.ensures in
+    let stride = read_of w64 nat_abs c.args.s c.ranges.s c.size_of.ensures in
     let up = ap (le_z (pos 0)) (to_z-of_z w64 c.args.s c.ranges.s) in
     (λ i. By (record { layout = c.args.m; count = count i; first = record { 0 = first i }; stride = stride i; upward = up i }))
     ∙ triplet-accepted c.args.m c.args.lower c.args.l c.args.h c.args.s (in-range (goal.at.returns c).Else-not-in_range)

@@ -1,6 +1,5 @@
 -- `address_of` meets its contract: by the extent that the share has.
 use mathlib.Core.Path.{sym, ap, ◌∙◌, subst}
-use borrow.Author.Rules.{rules}
 use Rattle.section.specs.Shares.{address_from, BasedIn}
 use Rattle.section.specs.declared.shares.Extent.{Extent}
 use Rattle.section.proofs.shares.address_of.Goals as goal

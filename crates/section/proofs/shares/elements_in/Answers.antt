@@ -1,6 +1,5 @@
 -- `elements_in` meets its contract: by the extent that the share has.
 use mathlib.Core.Path.{sym, ap, ◌∙◌}
-use borrow.Author.Rules.{rules}
 use Rattle.section.specs.Shares.{held_from}
 use Rattle.section.specs.declared.shares.Extent.{Extent}
 use Rattle.section.proofs.shares.elements_in.Goals as goal

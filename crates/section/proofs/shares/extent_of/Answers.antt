@@ -1,6 +1,5 @@
 -- `extent_of` meets its contract: by the part.
 use mathlib.Core.Path.{sym, ap, ◌∙◌, subst}
-use borrow.Author.Rules.{rules}
 use Rattle.mapping.specs.Parts.{Low}
 use Rattle.section.specs.declared.shares.Extent.TheVariants.{Run}
 use Rattle.section.specs.Shares.{extent_in}

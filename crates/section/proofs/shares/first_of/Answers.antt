@@ -1,6 +1,5 @@
 -- `first_of` meets its contract: by the extent that the share has.
 use mathlib.Core.Path.{sym, ap, ◌∙◌}
-use borrow.Author.Rules.{rules}
 use Rattle.section.specs.Shares.{place_from}
 use Rattle.section.specs.declared.shares.Extent.{Extent}
 use Rattle.section.proofs.shares.first_of.Goals as goal

@@ -1,17 +1,15 @@
 -- `next_of` meets its contract: by the extent that the share has.
 use mathlib.Core.Path.{sym, ap, ◌∙◌, subst}
-use borrow.Author.Rules.{rules}
 use native.Mathlib.Omega.{arith}
 use Rattle.section.specs.Shares.{next_from, LeadOn}
 use Rattle.section.specs.declared.shares.Extent.{Extent}
 use Rattle.section.proofs.shares.next_of.Goals as goal
 
 pub next_place-requires : goal.next_place-requires
-next_place-requires c =
-    (
-      record { bounded = c.requires.0.fitted.bounded; below = c.requires.0.below },
-      subst (λ (e : Extent). LeadOn c.args.s.section e c.args.steps) c.in-Blocks.is c.requires.1,
-    )
+next_place-requires c = (
+  record { bounded = c.requires.0.fitted.bounded; below = c.requires.0.below },
+  subst (λ (e : Extent). LeadOn c.args.s.section e c.args.steps) c.in-Blocks.is c.requires.1,
+)
 
 pub after-requires : goal.after-requires
 after-requires c = omega (arith, c.requires.0.below, c.requires.0.fitted.bounded.count-high)

@@ -1,6 +1,5 @@
 -- `owns_at` meets its contract: by the extent that the share has.
 use mathlib.Core.Path.{sym, ap, ◌∙◌}
-use borrow.Author.Rules.{rules}
 use Rattle.section.specs.Shares.{owned_of}
 use Rattle.section.specs.declared.shares.Extent.{Extent}
 use Rattle.section.proofs.shares.owns_at.Goals as goal

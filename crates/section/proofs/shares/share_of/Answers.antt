@@ -1,6 +1,5 @@
 -- `share_of` meets its contract: what passed question 8 is a processor of the layout.
 use mathlib.Core.Path.{ap, ◌∙◌}
-use borrow.Author.Rules.{rules}
 use mir.Syntax.{w64}
 use Rattle.numbers.proofs.Signed.{read_of}
 use Rattle.model.specs.Mappings.{dealing_with}

@@ -1,6 +1,5 @@
 -- `fall` meets its contract.
 use native.Mathlib.Omega.{arith}
-use borrow.Author.Rules.{rules}
 use Rattle.section.proofs.FallLaws.{fall-count, fall-courses, fallen}
 use Rattle.section.proofs.steps.fall.Goals as goal
 

@@ -1,7 +1,6 @@
 -- `one_step` meets its contract.
 use native.Mathlib.Nat.{le_of_lt}
 use native.Mathlib.Omega.{arith}
-use borrow.Author.Rules.{rules}
 use Rattle.numbers.proofs.Division.{product_le}
 use Rattle.model.specs.Steps.{one_step}
 use Rattle.section.proofs.steps.one_step.Goals as goal

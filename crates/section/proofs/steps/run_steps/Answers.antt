@@ -1,5 +1,4 @@
 -- `run_steps` meets its contract.
-use borrow.Author.Rules.{rules}
 use borrow.Author.Tests.{lt-ltb, le-ltb}
 use Rattle.model.specs.Steps.{run_steps}
 use Rattle.section.proofs.steps.run_steps.Goals as goal

@@ -1,7 +1,6 @@
 -- `steps_by` meets its contract: by the dealing.
 use mathlib.Core.Path.{sym, ap, ◌∙◌}
 use mathlib.Core.List.{[]}
-use borrow.Author.Rules.{rules}
 use Rattle.model.specs.declared.Dealing.{Dealing}
 use Rattle.model.specs.Mappings.{dealing_with}
 use Rattle.section.specs.Shares.{steps_for}

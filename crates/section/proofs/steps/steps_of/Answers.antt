@@ -2,7 +2,6 @@
 use Prim.Native.Nat.{◌*◌, ◌<◌}
 use mathlib.Core.Path.{◌≡◌, refl, ap, ◌∙◌}
 use native.Mathlib.Omega.{arith}
-use borrow.Author.Rules.{rules}
 use Rattle.numbers.specs.Gcd.{gcd}
 use Rattle.model.specs.declared.Steps.TheVariants.{OneStep, TwoSteps}
 use Rattle.model.specs.Ownership.{course_cells}
@@ -23,13 +22,12 @@ s-is c =
     c.spread_of-s.ensures
 
 pub one_step-requires : goal.one_step-requires
-one_step-requires c =
-    (
-      c.gcd-d.ensures,
-      omega (arith, c.gcd-d.ensures, divisor-pos c.args.w (m-is (goal.at.one_step-requires c).After-gcd-d) (s-is (goal.at.one_step-requires c).After-gcd-d) c.requires c.if-w-lt2.false),
-      spread-high c.args.w (m-is (goal.at.one_step-requires c).After-gcd-d) (s-is (goal.at.one_step-requires c).After-gcd-d) c.requires c.if-w-lt2.false,
-      cells-high c.args.w (m-is (goal.at.one_step-requires c).After-gcd-d) (s-is (goal.at.one_step-requires c).After-gcd-d) c.requires c.if-w-lt2.false,
-    )
+one_step-requires c = (
+  c.gcd-d.ensures,
+  omega (arith, c.gcd-d.ensures, divisor-pos c.args.w (m-is (goal.at.one_step-requires c).After-gcd-d) (s-is (goal.at.one_step-requires c).After-gcd-d) c.requires c.if-w-lt2.false),
+  spread-high c.args.w (m-is (goal.at.one_step-requires c).After-gcd-d) (s-is (goal.at.one_step-requires c).After-gcd-d) c.requires c.if-w-lt2.false,
+  cells-high c.args.w (m-is (goal.at.one_step-requires c).After-gcd-d) (s-is (goal.at.one_step-requires c).After-gcd-d) c.requires c.if-w-lt2.false,
+)
 
 pub returns-then-k-d : goal.returns-then-k-d
 returns-then-k-d c =

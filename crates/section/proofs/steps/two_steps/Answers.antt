@@ -1,12 +1,12 @@
 -- `two_steps` meets its contract. The invariant: no smaller multiple comes nearer than the two. The measure: what is left of both.
-use Prim.Native.Nat.{◌+◌, ◌-◌, ◌<◌}
-use mathlib.Core.Logic.{inl, inr, ⊎_elim}
+use Prim.Native.Nat.{◌-◌, ◌<◌}
+use mathlib.Core.Logic.{inl, inr}
 use native.Mathlib.Nat.{mod-lt}
 use native.Mathlib.Omega.{arith}
-use borrow.Author.Tests.{ltb-true, ltb-false}
 use Rattle.model.proofs.Turns.{start}
-use Rattle.section.proofs.FallLaws.{Sides, cells-a, cells-b, may-a, may-b, keep-a, keep-b, processor-is, return-is}
+use Rattle.section.proofs.FallLaws.{cells-a, cells-b, may-a, may-b, keep-a, keep-b, processor-is, return-is}
 use Rattle.section.proofs.steps.two_steps.Goals as goal
+use Rattle.section.proofs.steps.two_steps.Goals.{else-a-k-via-then-a-k+else-b-k, else-a-k-via-else-a-k}
 
 pub overflow_sub-a : goal.overflow_sub-a
 overflow_sub-a c = omega arith
@@ -35,7 +35,10 @@ overflow_mul-result-then-b-k c = omega (arith, cells-b c.requires c.loop-a.invar
 pub fall-b-requires : goal.fall-b-requires
 fall-b-requires c =
     may-b c.requires c.loop-a.invariant c.if-a-b.true
-    (⊎_elim (λ w. inr (omega (arith, ltb-false))) (λ w. inl (omega arith)) c.else-a-k.branch)
+    (elim c.else-a-k.branch [
+      | else-a-k-via-then-a-k+else-b-k w ↦ inr (omega arith)
+      | else-a-k-via-else-a-k w ↦ inl (omega arith)
+    ])
 
 pub loop-a-smaller-then-a-b : goal.loop-a-smaller-then-a-b
 loop-a-smaller-then-a-b c = omega (arith, c.fall-b.ensures.less)
@@ -46,7 +49,10 @@ loop-a-preserved-then-a-b c = keep-b c.requires c.loop-a.invariant c.fall-b.resu
 pub fall-a-requires : goal.fall-a-requires
 fall-a-requires c =
     may-a c.requires c.loop-a.invariant c.if-a-b.false
-    (⊎_elim (λ w. inr (omega (arith, ltb-false))) (λ w. inl (omega arith)) c.else-a-k.branch)
+    (elim c.else-a-k.branch [
+      | else-a-k-via-then-a-k+else-b-k w ↦ inr (omega arith)
+      | else-a-k-via-else-a-k w ↦ inl (omega arith)
+    ])
 
 pub loop-a-smaller : goal.loop-a-smaller
 loop-a-smaller c = omega (arith, c.fall-a.ensures.less)
@@ -55,6 +61,4 @@ pub loop-a-preserved : goal.loop-a-preserved
 loop-a-preserved c = keep-a c.requires c.loop-a.invariant c.fall-a.result c.fall-a.ensures
 
 pub returns : goal.returns
-returns c =
-    let fb = ltb-true _ _ c.if-b-k.true in
-    (processor-is c.requires c.loop-a.invariant c.else-a-k.true fb, return-is c.requires c.loop-a.invariant c.else-a-k.true fb)
+returns c = (processor-is c.requires c.loop-a.invariant c.if-a-k.true c.if-b-k.true, return-is c.requires c.loop-a.invariant c.if-a-k.true c.if-b-k.true)

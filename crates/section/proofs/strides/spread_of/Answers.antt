@@ -1,6 +1,5 @@
 -- `spread_of` meets its contract.
 use native.Mathlib.Omega.{arith}
-use borrow.Author.Rules.{rules}
 use Rattle.section.proofs.strides.spread_of.Goals as goal
 
 pub overflow_mul-result : goal.overflow_mul-result

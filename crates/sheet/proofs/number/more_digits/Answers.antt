@@ -1,11 +1,9 @@
 -- `more_digits` meets its contract. The invariant: what is read from here on, after the digits so far, is what is read from
 -- the beginning.
-use Prim.Native.Nat.{◌≤◌, ◌<◌, ◌-◌}
+use Prim.Native.Nat.{◌-◌}
 use mathlib.Core.Path.{◌≡◌}
 use native.Mathlib.Omega.{arith}
-use borrow.Author.Rules.{rules}
-use lib.ListN.{length, drop, get_or}
-use Rattle.sheet.specs.Numbers.{digits}
+use lib.ListN.{get_or}
 use Rattle.sheet.proofs.NaturalLaws.{Grows}
 use Rattle.sheet.proofs.ByteLaws.{digits-ended, digits-refused, digits-on, digits-out}
 use Rattle.sheet.proofs.number.more_digits.Goals as goal
@@ -27,9 +25,6 @@ pub returns-then-b-gt57 : goal.returns-then-b-gt57
 returns-then-b-gt57 c =
     digits-refused _ _ _ _ _ c.loop-at.invariant.3 (omega arith)
     c.if-b-end.false (λ g. omega (arith, g.high))
-
-pub overflow_add-next : goal.overflow_add-next
-overflow_add-next c = omega (arith, c.wide.ensures)
 
 pub returns-then-max-next : goal.returns-then-max-next
 returns-then-max-next c =

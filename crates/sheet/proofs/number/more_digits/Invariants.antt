@@ -2,12 +2,8 @@
 -- the beginning.
 use Prim.Native.Nat.{◌≤◌, ◌<◌, ◌-◌}
 use mathlib.Core.Path.{◌≡◌}
-use native.Mathlib.Omega.{arith}
-use borrow.Author.Rules.{rules}
-use lib.ListN.{length, drop, get_or}
+use lib.ListN.{length, drop}
 use Rattle.sheet.specs.Numbers.{digits}
-use Rattle.sheet.proofs.NaturalLaws.{Grows}
-use Rattle.sheet.proofs.ByteLaws.{digits-ended, digits-refused, digits-on, digits-out}
 use Rattle.sheet.proofs.number.more_digits.Given as goal
 
 abbrev pub invariant-loop-at : goal.invariant-loop-at

@@ -7,7 +7,6 @@ use Rattle.sheet.specs.Numbers.{digits}
 use Rattle.sheet.proofs.NaturalLaws.{Starts}
 use Rattle.sheet.proofs.AnswerLaws.{same-reading}
 use Rattle.sheet.proofs.ByteLaws.{natural-out, natural-barred, natural-begun}
-use borrow.Author.Rules.{rules}
 use Rattle.sheet.proofs.number.natural_at.Goals as goal
 
 pub returns-then-s-at : goal.returns-then-s-at

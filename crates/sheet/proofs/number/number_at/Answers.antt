@@ -3,8 +3,8 @@ use mathlib.Core.Path.{◌≡◌, ap}
 use native.Mathlib.Omega.{arith}
 use mir.Syntax.{w64}
 use mir.Val.{to_z, of_z}
-use Rattle.sheet.specs.Answers.{found, failed, place_of, natural_found}
-use Rattle.sheet.proofs.AnswerLaws.{known, natural-failed, natural-small}
+use Rattle.sheet.specs.Answers.{found, failed, natural_found}
+use Rattle.sheet.proofs.AnswerLaws.{known, natural-small}
 use Rattle.sheet.proofs.ByteLaws.{number-out, number-minus, number-plain}
 use borrow.Author.Rules.{rules}
 use Rattle.sheet.proofs.number.number_at.Goals as goal
@@ -14,10 +14,9 @@ returns-then-s-at c = number-out _ c.if-s-at.true c.requires.0
 
 pub returns-in_default : goal.returns-in_default
 returns-in_default c =
-    rw c.natural_place.ensures
-    (number-minus _ (omega arith) (failed (place_of (natural_found c.natural_at-size.result)))
-    c.if-s-at-eq45.true
-    (known (natural-failed c.natural_at-size.result c.in-Value.in-Value-own.keys2) c.natural_at-size.ensures))
+    rw (c.natural_place.ensures, c.in_default.is)
+    (number-minus _ (omega arith) (failed c.in_default.field-0) c.if-s-at-eq45.true
+    (known (ap natural_found c.in_default.is) c.natural_at-size.ensures))
 
 pub minus-requires : goal.minus-requires
 minus-requires c =
@@ -34,10 +33,9 @@ returns-then-s-at-eq45 c =
 
 pub returns-in_default-size : goal.returns-in_default-size
 returns-in_default-size c =
-    rw c.natural_place-in_default-size.ensures
-    (number-plain _ (omega arith) (failed (place_of (natural_found c.natural_at-size-2.result)))
-    c.if-s-at-eq45.false
-    (known (natural-failed c.natural_at-size-2.result c.in-Value-size.in-Value-size-own.keys2) c.natural_at-size-2.ensures))
+    rw (c.natural_place-in_default-size.ensures, c.in_default-size.is)
+    (number-plain _ (omega arith) (failed c.in_default-size.field-0) c.if-s-at-eq45.false
+    (known (ap natural_found c.in_default-size.is) c.natural_at-size-2.ensures))
 
 pub plus-requires : goal.plus-requires
 plus-requires c =

@@ -1,10 +1,10 @@
 -- What save and load answer and write, from the answer to the questions about the mapping.
-use Prim.Native.Nat.{ℕ, ◌≤◌}
+use Prim.Native.Nat.{ℕ, ◌≤◌, ◌<◌}
 use mathlib.Core.Path.{◌≡◌, refl, sym, ap, subst, ◌∙◌}
 use mathlib.Core.Bool.{Bool, true, false, cond}
 use mathlib.Core.List.{List}
 use native.Mathlib.Omega.{arith}
-use borrow.Author.Tests.{ne_eqb, le-leb}
+use borrow.Author.Tests.{ne_eqb, le-leb, lt-leb}
 use lib.IntN.{ℤ}
 use lib.ListN.{length}
 use Rattle.model.specs.Mappings.{Mapping, mapping_with}
@@ -27,6 +27,12 @@ use Rattle.storage.proofs.DealtWords.{by-places}
 -- ---- question 13
 
 module _ (n : ℕ) (s to : List ℕ) where
+  pub read_short : length s < n → has_room n s to ≡ false
+  read_short h = rw (lt-leb n (length s) h)
+
+  pub written-short : n ≤ length s → length to < n → has_room n s to ≡ false
+  written-short k h = rw (le-leb n (length s) k, lt-leb n (length to) h)
+
   pub room : n ≤ length s → n ≤ length to → has_room n s to ≡ true
   room k h = rw (le-leb n (length s) k, le-leb n (length to) h)
 

@@ -1,4 +1,4 @@
--- Copies of runs, one after the other.
+-- Copies of runs, one after the other. Assumes nothing.
 use Prim.Native.Nat.{ℕ, ◌+◌, ◌-◌, ◌≤◌, ◌<◌}
 use mathlib.Core.Path.{◌≡◌, refl, sym, ap, ◌∙◌}
 use mathlib.Core.Bool.{Bool, true, false}
@@ -190,7 +190,26 @@ abbrev pub Goes : Bool → Layout → Pace → Run → Run → List ℕ → List
 Goes b l p start r s row to row' to' = ((r ≡ start) × (row' ≡ row) × (to' ≡ to)) ⊎ Takes b l p start r s row to row' to'
 
 module _ {b : Bool} {l : Layout} {p : Pace} {start r : Run} {s row to row' to' : List ℕ} (h : Ready l p start row s to) where
+  pub goes-ready : Goes b l p start r s row to row' to' → r.index.0 < l.size → r.processor < l.processors → Ready l p r row' s to'
+  goes-ready (inl e) k q = rw (e.0, e.1, e.2) h
+  goes-ready (inr t) k q = ready_on h t r refl k (t.stands k) q
+
   pub goes_on : {e : Run} {row'' to'' : List ℕ} → Goes b l p start r s row to row' to' → Takes b l p r e s row' to' row'' to''
       → Takes b l p start e s row to row'' to''
   goes_on {e} {row''} {to''} (inl g) t = rw (g.0, g.1, g.2) at t
   goes_on (inr g) t = takes-join g t
+
+  -- a lap ends past the last processor, or at the array's end: it took some
+  pub goes_end : Goes b l p start r s row to row' to' → (l.processors ≤ r.processor) ⊎ (l.size ≤ r.index.0) → Takes b l p start r s row to row' to'
+  goes_end (inl e) (inl k) = absurd (omega (arith, h.processor, ap (λ (x : Run). x.processor) e.0))
+  goes_end (inl e) (inr k) = absurd (omega (arith, h.index, ap (λ (x : Run). x.index.0) e.0))
+  goes_end (inr t) k = t
+
+  -- the lists keep their lengths
+  pub goes-row : Goes b l p start r s row to row' to' → length row' ≡ length row
+  goes-row (inl e) = ap length e.1
+  goes-row (inr t) = t.row-length
+
+  pub goes-length : Goes b l p start r s row to row' to' → length to' ≡ length to
+  goes-length (inl e) = ap length e.2
+  goes-length (inr t) = taken-length h t

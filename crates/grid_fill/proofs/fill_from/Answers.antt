@@ -31,7 +31,7 @@ fill_rows-requires c =
     }
 
 pub returns : goal.returns
-returns c =
+returns c x o =
     let here = c.plan_of-plan.ensures.plan_of x o in
     let stands = c.stand_at-at.ensures x here in
     rw (← stands.1) (c.fill_rows.ensures x here stands.0)

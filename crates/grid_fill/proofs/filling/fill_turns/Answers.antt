@@ -71,7 +71,7 @@ pub shape_of-list-after-loop-n : goal.shape_of-list-after-loop-n
 shape_of-list-after-loop-n c = c.loop-n.invariant.1
 
 pub returns-after-loop-n : goal.returns-after-loop-n
-returns-after-loop-n c =
+returns-after-loop-n c x o st =
     let f = c.loop-n.invariant.3 x o st in
     (f.stands, ends-full x c.args.p o c.args.start c.args.quota c.args.list.now f _ refl refl refl (omega (arith, c.loop-n-test.false, c.loop-n.invariant.1)))
 
@@ -79,7 +79,7 @@ pub shape_of-list-then-count-at : goal.shape_of-list-then-count-at
 shape_of-list-then-count-at c = c.loop-n.invariant.1
 
 pub returns-then-count-at : goal.returns-then-count-at
-returns-then-count-at c =
+returns-then-count-at c x o st =
     let f = c.loop-n.invariant.3 x o st in
     (f.stands, ends-count x c.args.p o c.args.start c.args.quota c.args.list.now f _ refl refl refl c.if-count-at.true)
 
@@ -87,6 +87,6 @@ pub shape_of-list-then-quota-paid-lt-LEAST_TRIES : goal.shape_of-list-then-quota
 shape_of-list-then-quota-paid-lt-LEAST_TRIES c = c.loop-n.invariant.1
 
 pub returns-then-quota-paid-lt-LEAST_TRIES : goal.returns-then-quota-paid-lt-LEAST_TRIES
-returns-then-quota-paid-lt-LEAST_TRIES c =
+returns-then-quota-paid-lt-LEAST_TRIES c x o st =
     let f = c.loop-n.invariant.3 x o st in
     (f.stands, ends-quota x c.args.p o c.args.start c.args.quota c.args.list.now f _ refl refl refl c.if-quota-paid-lt-LEAST_TRIES.true)

@@ -81,7 +81,7 @@ pub OLD-overflow-mul-t25 : goal.OLD-overflow-mul-t25
 OLD-overflow-mul-t25 c = omega (arith, (bounds (goal.at.OLD-overflow-mul-t25 c).After-addresses_from-r).1)
 
 pub returns : goal.returns
-returns c =
+returns c x o st known quota fits =
     let b = begun (goal.at.returns c).After-addresses_from-r in
     let v = going-in b x o in
     let in-planes = (c.requires.begun.1 (sections_of x).third (third-yes x o.accepted) o.third.share).1 in

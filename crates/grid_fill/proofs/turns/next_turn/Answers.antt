@@ -20,7 +20,7 @@ pub row_turn-requires : goal.row_turn-requires
 row_turn-requires c = (c.requires.begun, c.step_from-plane.ensures)
 
 pub returns-then-count-eq0 : goal.returns-then-count-eq0
-returns-then-count-eq0 c = c.row_turn.ensures x o st
+returns-then-count-eq0 c x o st known = c.row_turn.ensures x o st
 
 pub copy_turn-requires : goal.copy_turn-requires
 copy_turn-requires c =
@@ -38,6 +38,6 @@ copy_turn-requires c =
       } }
 
 pub returns : goal.returns
-returns c =
+returns c x o st known =
     let again = c.rows_again-count.ensures.2 (omega (arith, c.if-count-eq0.false)) in
     c.copy_turn.ensures x o st (known again.1) c.args.quota again.2

@@ -79,7 +79,7 @@ fill_row-r-requires c =
     record { placed = (first-placed b, b.planned.first_way); le_quota = (b.least, b.most, low (goal.at.fill_row-r-requires c).After-step_from-row) }
 
 pub returns : goal.returns
-returns c =
+returns c x o st =
     let b = begun (goal.at.returns c).After-step_from-row in
     let v = going-in b x o in
     let e = is (goal.at.returns c).After-step_from-row x o st in

@@ -1,6 +1,5 @@
 -- `fill_from` meets its contract: the fill by rows is the one from its place.
 use mathlib.Core.Path.{sym, subst}
-use borrow.Author.Rules.{rules}
 use Rattle.grid_section.specs.declared.places.Shares.{Shares}
 use Rattle.grid_fill.specs.Rows.{PlanOf}
 use Rattle.grid_fill.specs.Plans.{PlaceIn}

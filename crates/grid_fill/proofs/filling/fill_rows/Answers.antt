@@ -1,6 +1,5 @@
 -- `fill_rows` meets its contract.
 use mathlib.Core.Path.{◌∙◌}
-use borrow.Author.Rules.{rules}
 use Rattle.grid_fill.proofs.filling.fill_rows.Goals as goal
 
 pub place_of-requires : goal.place_of-requires

@@ -1,6 +1,5 @@
 -- `step_from` meets its contract: a fill of one entry has its address, and the place after it.
 use mathlib.Core.Path.{refl, ◌∙◌}
-use borrow.Author.Rules.{rules}
 use Rattle.grid_fill.proofs.ShareFills.{step_is}
 use Rattle.grid_fill.proofs.steps.step_from.Goals as goal
 

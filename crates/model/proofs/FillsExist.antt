@@ -39,7 +39,7 @@ module _ (f : Form) (laws : Laws f.kind) (same : Same f) (x : Filling f) where
       → Agrees f x q (standing t (outcomes f cs)) c → FollowsOn f x q t (cs ++ (c ∷ []))
   unfolding FollowsOn standing
   follows-more q t [] fs c a = ((λ e. a), tt)
-  follows-more q t (d ∷ cs) fs c a = (fs.0, follows-more q _ cs fs.1 c a)
+  follows-more q t (d ∷ cs) fs c a = (fs.0, follows-more q (standing t (f.outcome d ∷ [])) cs fs.1 c a)
 
   module _ (ok : first_no (f.kind.questions x) ≡ 0) (q : ℕ) (h : q < (axis_in f x).array.processors) where
     asks_none : (cs : List f.Call) → Fills f x q cs → (c : f.Call) → Agrees f x q (place_after f x q cs) c

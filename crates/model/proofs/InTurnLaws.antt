@@ -29,7 +29,7 @@ module _ {w : Walk} where
   leads-drop zero done = done
   leads-drop zero (on h l) = on h l
   leads-drop (suc n) done = done
-  leads-drop (suc n) (on h l) = leads-drop n l
+  leads-drop {t = t} (suc n) (on {ts = ts} h l) = leads-drop {t = w.next t} n l
 
   -- from one place to the one after it
   leads-first : {t : ℕ} {ps : List ℕ} → Leads w t ps → 0 < length ps → (get_or ps 0 0 ≡ t) × (get_or ps 0 0 < w.count)
@@ -190,7 +190,7 @@ module _ (w : Walk) where
       let n : ℕ = p.0 in
       let h : Part t ps r n = p.1 in
       let ih : Whole (head_or w.count (drop n ps)) (drop n ps) rs =
-      whole (leads-drop n l) rs (subst (λ (z : ℕ). Follows w z rs) h.place fs.1) in
+      whole {t = head_or w.count (drop n ps)} (leads-drop n l) rs (subst (λ (z : ℕ). Follows w z rs) h.place fs.1) in
       let m : ℕ = added w (drop n ps) rs in
       record {
         number = rw (h.shared, h.number, ih.number);
@@ -226,7 +226,7 @@ module _ (w : Walk) where
       let n : ℕ = share w (u ∷ ps) r in
       let d : length (drop n (u ∷ ps)) ≡ suc (length ps) - n = length-drop n (u ∷ ps) in
       let k : cond (eqb r.refusal 0) (has_entry r.list) 0 ≤ n = takes u ps r (λ e. (fs.0 e).1) in
-      let a : length (drop n (u ∷ ps)) ≤ added w (drop n (u ∷ ps)) rs = enough _ (drop n (u ∷ ps)) rs fs.1 (omega arith) in
+      let a : length (drop n (u ∷ ps)) ≤ added w (drop n (u ∷ ps)) rs = enough (standing t (answer w r ∷ [])) (drop n (u ∷ ps)) rs fs.1 (omega arith) in
       omega arith
 
   -- requests that follow one another along the places that the walk leads through

@@ -1,5 +1,5 @@
-use Rattle.std.proofs.Common.{◌≡◌, ◌+◌, ◌*◌, ◌/◌, ◌<◌, ◌^◌, ℕ, ◌-◌, ◌≤◌, length, ◌%◌, arith, ap}
-use Rattle.numbers.proofs.SumLaws.{tri-closed, tri-half, square-fits, whole-fits}
+use Rattle.std.proofs.Common.{◌*◌, ◌/◌, ℕ, arith, ap}
+use Rattle.numbers.proofs.SumLaws.{tri-half, whole-fits}
 use Rattle.numbers.proofs.whole_sum.Goals as goal
 
 pub overflow_mul-result-2 : goal.overflow_mul-result-2

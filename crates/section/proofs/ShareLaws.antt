@@ -1,4 +1,4 @@
--- A processor's share of an accepted section has what document 01 says of the section, whichever the dealing. Assumes nothing.
+-- A processor's share of an accepted section has what document 01 says of the section, whichever the dealing.
 use Prim.Native.Nat.{ℕ, suc, ◌-◌, ◌*◌, ◌≤◌, ◌<◌}
 use mathlib.Core.Path.{◌≡◌, refl, sym, ap, ◌∙◌, subst}
 use mathlib.Core.Bool.{Bool, true, false, cond}
@@ -13,7 +13,7 @@ use Rattle.numbers.proofs.MultipleLaws.{multiples-le, below-multiples, multiples
 use Rattle.model.specs.Mappings.{Dealing, cyclic, gen_block, Section}
 use Rattle.model.specs.Ownership.{run_start, run_owner, run_sizes, owner, owns, rank, held}
 use Rattle.model.specs.Sections.{layout, count, index, address, owns_at, places, first_place}
-use Rattle.model.specs.Steps.{spread, upward, run_next, steps_dealt, steps_of, next_dealt, next_place}
+use Rattle.model.specs.Steps.{spread, run_next, steps_dealt, steps_of, next_dealt, next_place}
 use Rattle.model.specs.Questions.{first_no, of_section}
 use Rattle.model.proofs.AcceptedLaws.{accepted, mapping-yes, runs-in}
 use Rattle.model.proofs.SectionLaws.{index-lt}

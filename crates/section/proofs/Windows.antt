@@ -1,5 +1,5 @@
 -- Searches for a column: a block of columns as a window of rests, seen from a column outside it; the search for a position
--- by columns; and a course counted from its end. Assumes nothing.
+-- by columns; and a course counted from its end.
 use Prim.Native.Nat.{ℕ, ◌+◌, ◌*◌, ◌%◌, ◌≤◌, ◌<◌}
 use mathlib.Core.Path.{◌≡◌, refl, sym, ap, ◌∙◌, subst}
 use mathlib.Core.Bool.{Bool, true, false}

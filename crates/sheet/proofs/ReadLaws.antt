@@ -5,7 +5,6 @@ use mathlib.Core.List.{List, [], ◌∷◌, ◌++◌}
 use native.Mathlib.Omega.{arith}
 use lib.ListN.{length, take, drop, replicate, length-drop, take-append-drop, drop_of_length-le}
 use lib.Seq.{length-take-le, drop-cons}
-use denote.Enum.Declared.{tag_of}
 use Rattle.model.specs.Sheets.{Sheet, no_sheet, formed, malformed}
 use Rattle.sheet.specs.declared.Line.{Line}
 use Rattle.sheet.specs.declared.Lines.{Lines}
@@ -13,17 +12,16 @@ use Rattle.sheet.specs.declared.SheetRead.{SheetRead}
 use Rattle.sheet.specs.declared.Answer.TheVariants.{Formed}
 use Rattle.sheet.specs.declared.number.Cursor.{Cursor}
 use Rattle.sheet.specs.declared.part.Part.TheVariants.{Templates, Arrays, Sections}
-use Rattle.sheet.specs.declared.part.Ended.TheVariants.{At}
+use Rattle.sheet.specs.declared.part.Ended.TheVariants.{At, Bad as Off}
 use Rattle.sheet.specs.declared.part.PartRead.{PartRead}
 use Rattle.sheet.specs.Reading.{Got, got, bad, both, whole}
 use Rattle.sheet.specs.Parts.{part, Parts, parts}
 use Rattle.sheet.specs.Contents.{to_sheet, read_sheet, no_line, lines_of, kept}
-use Rattle.sheet.specs.Answers.{found, failed, Answers, ended_found, ended_place, PartAnswers, refused_at, read_as}
+use Rattle.sheet.specs.Answers.{found, failed, Answers, ended_found, PartAnswers, refused_at, read_as}
 use Rattle.sheet.specs.Answers.{Promised}
 use Rattle.sheet.proofs.PartLaws.{to_parts}
 use Rattle.sheet.proofs.SheetLaws.{parts-back, reads-back, refusal-place}
-use Rattle.sheet.proofs.AnswerLaws.{map-answers, first-failed, first_found, known, ended-failed}
-use Rattle.sheet.specs.contracts.part.Ended as ended-enum
+use Rattle.sheet.proofs.AnswerLaws.{map-answers, first-failed, first_found, known}
 
 -- ---- what the answer promises
 
@@ -56,8 +54,8 @@ module _ {s : List ℕ} {r : PartRead} {y : Got (List Line)} (h : PartAnswers s 
   pub went_on : {c : Cursor} → r.ended ≡ At c → Answers s (found (lines_in r) c.at) y
   went_on e = known (ap (ended_found (lines_in r)) e) h.answers
 
-  stopped : tag_of ended-enum.the_type r.ended ≡ 1 → Answers s (failed (ended_place r.ended)) y
-  stopped e = known (ended-failed (lines_in r) r.ended e) h.answers
+  stopped : {p : ℕ} → r.ended ≡ Off p → Answers s (failed p) y
+  stopped e = known (ap (ended_found (lines_in r)) e) h.answers
 
 -- ---- the parts, one after the other
 
@@ -85,8 +83,8 @@ module _ (s : List ℕ) where
   refused-at {p} a = rw (← a.reads) (ap refused_at (sym (left p a.within)))
 
   module _ {r1 : PartRead} (h1 : PartAnswers s r1 (part Templates s)) where
-    pub first-refused : tag_of ended-enum.the_type r1.ended ≡ 1
-        → refused_at (ended_place r1.ended) ≡ read_as (length s) (read_sheet s)
+    pub first-refused : {p : ℕ} → r1.ended ≡ Off p
+        → refused_at p ≡ read_as (length s) (read_sheet s)
     first-refused e = refused-at (map-answers to_parts (failed _) (first-failed (part Templates) later (stopped h1 e)))
 
     module _ {c1 : Cursor} (e1 : r1.ended ≡ At c1) {r2 : PartRead}
@@ -94,8 +92,8 @@ module _ (s : List ℕ) where
       named2 : PartAnswers s r2 (part (Arrays (length (lines_in r1))) (drop c1.at s))
       named2 = rw (counted h1) h2
 
-      pub second-refused : tag_of ended-enum.the_type r2.ended ≡ 1
-          → refused_at (ended_place r2.ended) ≡ read_as (length s) (read_sheet s)
+      pub second-refused : {p : ℕ} → r2.ended ≡ Off p
+          → refused_at p ≡ read_as (length s) (read_sheet s)
       second-refused e =
           refused-at
           (map-answers to_parts (failed _)
@@ -107,8 +105,8 @@ module _ (s : List ℕ) where
         named3 : PartAnswers s r3 (part (Sections (length (lines_in r2))) (drop c2.at s))
         named3 = rw (counted h2) h3
 
-        pub third-refused : tag_of ended-enum.the_type r3.ended ≡ 1
-            → refused_at (ended_place r3.ended) ≡ read_as (length s) (read_sheet s)
+        pub third-refused : {p : ℕ} → r3.ended ≡ Off p
+            → refused_at p ≡ read_as (length s) (read_sheet s)
         third-refused e =
             refused-at
             (map-answers to_parts (failed _)

@@ -1,0 +1,11 @@
+-- `hpf_gen_block_local_count` meets its contract: what `counted_of` promises, of the parameters.
+use mathlib.Core.Path.{refl, ◌∙◌}
+use borrow.Author.Rules.{rules}
+use mir.Syntax.{w64}
+use mir.ValLaws.{to_z-of_z}
+use Rattle.model.specs.Calls.{local_count}
+use Rattle.hpfaddr.proofs.ParameterLaws.{mapping-read}
+use Rattle.hpfaddr.proofs.gen_block.hpf_gen_block_local_count.Goals as goal
+
+pub returns : goal.returns
+returns c = record { result_value = c.counted_of.ensures.result_value ∙ (λ i. local_count ((mapping-read _ _ _ _ _ _ _ c.ranges.cells c.ranges.processors c.ranges.stride c.ranges.offset c.ranges.size c.ranges.array_lower c.ranges.template_lower c.args.sizes.now refl c.mapping_of-m.ensures) i) (to_z-of_z w64 c.args.processor c.ranges.processor i)); counted_fits = c.counted_of.ensures.counted_fits }

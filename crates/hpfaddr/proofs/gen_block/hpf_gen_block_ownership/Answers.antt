@@ -1,0 +1,11 @@
+-- `hpf_gen_block_ownership` meets its contract: what `owned_of` promises, of the parameters.
+use mathlib.Core.Path.{refl, ◌∙◌}
+use borrow.Author.Rules.{rules}
+use mir.Syntax.{w64}
+use mir.ValLaws.{to_z-of_z}
+use Rattle.model.specs.Calls.{ownership}
+use Rattle.hpfaddr.proofs.ParameterLaws.{mapping-read}
+use Rattle.hpfaddr.proofs.gen_block.hpf_gen_block_ownership.Goals as goal
+
+pub returns : goal.returns
+returns c = record { result_value = c.owned_of.ensures.result_value ∙ (λ i. ownership ((mapping-read _ _ _ _ _ _ _ c.ranges.cells c.ranges.processors c.ranges.stride c.ranges.offset c.ranges.size c.ranges.array_lower c.ranges.template_lower c.args.sizes.now refl c.mapping_of-m.ensures) i) (to_z-of_z w64 c.args.index c.ranges.index i)); owned_fits = c.owned_of.ensures.owned_fits }

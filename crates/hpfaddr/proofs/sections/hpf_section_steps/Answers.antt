@@ -1,0 +1,10 @@
+-- `hpf_section_steps` meets its contract: what `steps_of` promises, of the parameters.
+use mathlib.Core.Path.{ap, ◌∙◌}
+use mathlib.Core.List.{[]}
+use borrow.Author.Rules.{rules}
+use Rattle.model.specs.Calls.{section_steps}
+use Rattle.hpfaddr.proofs.ParameterLaws.{mapping-read, section-read, cyclic-read}
+use Rattle.hpfaddr.proofs.sections.hpf_section_steps.Goals as goal
+
+pub returns : goal.returns
+returns c = record { result_value = c.steps_of.ensures.result_value ∙ ap section_steps (section-read [] _ _ _ c.ranges.lower c.ranges.upper c.ranges.step (mapping-read _ _ _ _ _ _ _ c.ranges.cells c.ranges.processors c.ranges.stride c.ranges.offset c.ranges.size c.ranges.array_lower c.ranges.template_lower [] (cyclic-read _ c.ranges.block []) c.mapping_of-m.ensures) c.section_of-x.ensures); steps_fit = c.steps_of.ensures.steps_fit }

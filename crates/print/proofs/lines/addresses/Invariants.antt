@@ -1,0 +1,16 @@
+-- `addresses` meets its contract. The text of the addresses passed stands at the front.
+use Prim.Native.Nat.{◌*◌, ◌-◌, ◌^◌, ◌≤◌, ◌<◌}
+use mathlib.Core.Path.{◌≡◌}
+use native.Mathlib.Omega.{arith}
+use borrow.Author.Rules.{rules}
+use lib.ListN.{length, get_or, take}
+use Rattle.print.specs.Texts.{next_numbers, Puts}
+use Rattle.print.proofs.PutLaws.{put-length}
+use Rattle.print.proofs.LineLaws.{no-numbers, one_more, word-digits}
+use Rattle.print.proofs.lines.addresses.Given as goal
+
+abbrev pub invariant-loop-i : goal.invariant-loop-i
+invariant-loop-i l = (l.i ≤ l.n) × (l.at ≤ 11 * l.i) × Puts (next_numbers (take l.i l.list)) l.initial.out 0 l.out l.at
+
+abbrev pub decreases-loop-i : goal.decreases-loop-i
+decreases-loop-i l = l.n - l.i

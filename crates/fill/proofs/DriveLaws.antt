@@ -12,7 +12,7 @@ use Rattle.model.specs.declared.Step.{Step}
 use Rattle.model.specs.declared.Steps.{Steps}
 use Rattle.model.specs.declared.Steps.TheVariants.{NoStep, OneStep, TwoSteps}
 use Rattle.model.specs.Ownership.{held, course_cells, column_of, owner_of}
-use Rattle.model.specs.Sections.{layout, count, index, cell, address}
+use Rattle.model.specs.Sections.{layout, count, index, cell}
 use Rattle.model.specs.Steps.{go_on, spread, cyclic_steps, upward, cyclic_going}
 use Rattle.model.specs.Questions.{first_no, of_section}
 use Rattle.model.proofs.AddressLaws.{of_owns, unowned}

@@ -9,7 +9,6 @@ use lib.ListN.{length, take, drop}
 use lib.Seq.{take-add, drop-drop}
 use Rattle.numbers.proofs.SearchLaws.{tally-le}
 use Rattle.model.specs.Ownership.{rank, owns}
-use Rattle.model.specs.Sections.{address}
 use Rattle.model.specs.Filling.{Walk, on_base, Filled, fill_by}
 use Rattle.model.specs.Axes.{paired, Axis, axis_of, walk_on, next_from, rows}
 use Rattle.model.specs.Grids.{GridSection, sections_of, grid_axis}

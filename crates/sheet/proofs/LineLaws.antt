@@ -1,10 +1,11 @@
 -- A line at a place of the sheet, from its numbers in their rows; and which part has lines.
 use Prim.Native.Nat.{ℕ, zero, suc, ◌-◌, ◌≤◌, ◌<◌}
-use mathlib.Core.Path.{◌≡◌, sym, ◌∙◌, ap}
+use mathlib.Core.Path.{◌≡◌, refl, sym, ◌∙◌, ap}
 use mathlib.Core.List.{List, ◌++◌}
 use native.Mathlib.Omega.{arith}
 use lib.IntN.{ℤ, pos}
 use lib.ListN.{take, replicate, take-append-drop}
+use denote.Enum.Declared.{tag_of}
 use Rattle.sheet.specs.declared.Line.{Line}
 use Rattle.sheet.specs.declared.part.Part.{Part}
 use Rattle.sheet.specs.declared.part.Part.TheVariants.{Templates, Arrays, Sections}
@@ -14,6 +15,7 @@ use Rattle.sheet.specs.Parts.{end_by, line_of, limit_by, limit, Room, Names}
 use Rattle.sheet.specs.Answers.{found, Answers}
 use Rattle.sheet.proofs.AnswerLaws.{map-answers, known}
 use Rattle.sheet.proofs.RowLaws.{Filling, all_read, rest-none, kept_row}
+use Rattle.sheet.specs.contracts.part.Part as part-enum
 
 -- the numbers of a line in their rows
 abbrev pub NumberRows : List ℕ → ℕ → Got (List ℤ) → List ℤ → ℕ → ℕ → Type 0
@@ -46,6 +48,11 @@ line_read name {n = n} {at} {v = v} f h =
 some-name : (m n : ℕ) → 0 < n → n < limit_by m → 0 < m
 some-name zero n h l = absurd (omega arith)
 some-name (suc m) n h l = omega arith
+
+pub templates-only : (k : Part) → tag_of part-enum.the_type k ≡ 0 → k ≡ Templates
+templates-only Templates e = refl
+templates-only (Arrays n) e = absurd (omega (arith, e))
+templates-only (Sections n) e = absurd (omega (arith, e))
 
 -- where there is a line, there is something to name
 pub can-name : (k : Part) (n : ℕ) → 0 < n → n < limit k → Room k → Names k

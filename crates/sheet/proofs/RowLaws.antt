@@ -3,11 +3,20 @@ use Prim.Native.Nat.{ℕ, zero, suc, ◌+◌, ◌-◌, ◌≤◌, ◌<◌}
 use mathlib.Core.Path.{◌≡◌, refl, sym, ◌∙◌, ap}
 use mathlib.Core.List.{List, [], ◌∷◌, ◌++◌, append_assoc, append-nil}
 use native.Mathlib.Omega.{arith}
+use native.Mathlib.Nat.{sub-zero}
 use native.Mathlib.Numerals.{add-one}
-use lib.ListN.{length, take, drop, set, replicate, get_or, length-set}
+use lib.ListN.{length, take, drop, set, replicate, get_or, length-set, length-replicate}
 use lib.Seq.{take-suc-set, drop-set-lt, drop-cons}
+use Rattle.sheet.specs.declared.Line.{Line}
+use Rattle.sheet.specs.declared.part.Part.{Part}
+use Rattle.sheet.specs.declared.part.PartRead.{PartRead}
+use Rattle.sheet.specs.declared.part.Ended.TheVariants.{At, Bad as Off}
 use Rattle.sheet.specs.Reading.{Got, got, bad, map_got, rows}
-use Rattle.sheet.specs.Answers.{found, failed, Answers}
+use Rattle.sheet.specs.Numbers.{natural}
+use Rattle.sheet.specs.Parts.{limit, lines, part}
+use Rattle.sheet.specs.Contents.{no_line, lines_of}
+use Rattle.sheet.specs.Answers.{found, failed, ended_found, Answers, PartAnswers}
+use Rattle.sheet.proofs.AnswerLaws.{second-only}
 
 -- Of n values, i stand in the first of some rows, and at is the place after them; y is what is read in all. A row without a
 -- value holds none.
@@ -20,6 +29,20 @@ pub record Filling {A : Type 0} (none : A) (room : ℕ) (s : List ℕ) (r : ℕ 
   pub reads : map_got (λ l. take i held ++ l) (rows r (n - i) (drop at s)) ≡ y
 
 module _ {A : Type 0} (none : A) (room : ℕ) (s : List ℕ) (r : ℕ → List ℕ → Got A) (n : ℕ) where
+  pub none_read : (at : ℕ) → at ≤ length s → Filling none room s r n (rows r n (drop at s)) (replicate room none) at 0
+  none_read at h =
+      record {
+        upto = omega arith;
+        within = h;
+        long = length-replicate room none;
+        rest = rw (sub-zero room);
+        reads = rw (sub-zero n) (same (rows r n (drop at s)));
+      }
+    where
+      same : (y : Got (List A)) → map_got (λ l. [] ++ l) y ≡ y
+      same (got l t) = refl
+      same (bad t) = refl
+
   module _ {y : Got (List A)} {held : List A} {at i : ℕ} (f : Filling none room s r n y held at i) where
     module _ (h : n ≤ i) where
       all : i ≡ n
@@ -86,3 +109,27 @@ kept_row none [] (suc k) zero = refl
 kept_row none [] (suc k) (suc i) = kept_row none [] k i
 kept_row none (x ∷ l) k zero = refl
 kept_row none (x ∷ l) k (suc i) = kept_row none l k i
+
+-- ---- a part: its count, and then its lines
+
+pub part_off : {s : List ℕ} {y : Got (List Line)} {p : ℕ} → Answers s (failed p) y
+    → PartAnswers s (record { ended = Off p; lines = lines_of [] }) y
+part_off a = record { answers = a; few = omega arith; long = refl; rest = refl }
+
+pub part-full : {s : List ℕ} {r : ℕ → List ℕ → Got Line} {n at i : ℕ} {y : Got (List Line)} {held : List Line}
+    → Filling no_line 64 s r n y held at i → n ≤ i → n ≤ 64
+    → PartAnswers s (record { ended = At (record { at = at }); lines = record { count = n; rows = held } }) y
+part-full f h k =
+    record { answers = all_read _ _ _ _ _ f h; few = k; long = f.long; rest = rest-none _ _ _ _ _ f h }
+
+pub part-read : (k : Part) (x : List ℕ) {s : List ℕ} {n p : ℕ} {r : PartRead}
+    → Answers s (found n p) (natural 0 (limit k) 10 x) → PartAnswers s r (lines k n (drop p s))
+    → PartAnswers s r (part k x)
+part-read k x {r = r} a h =
+    record {
+      answers = second-only (natural 0 (limit k) 10) (lines k)
+          (ended_found (take r.lines.count r.lines.rows) r.ended) a h.answers;
+      few = h.few;
+      long = h.long;
+      rest = h.rest;
+    }

@@ -1,4 +1,4 @@
--- Words copied from consecutive places to consecutive places. Assumes nothing.
+-- Words copied from consecutive places to consecutive places.
 use Prim.Native.Nat.{ℕ, ◌+◌, ◌≤◌}
 use mathlib.Core.Path.{◌≡◌, refl, sym, ◌∙◌}
 use mathlib.Core.List.{List}

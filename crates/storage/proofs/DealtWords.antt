@@ -1,5 +1,5 @@
 -- The words of an array lie in the storage at the places that its owners give, by either dealing. Of a GEN_BLOCK template the
--- storages laid end to end are in index order. Assumes nothing.
+-- storages laid end to end are in index order.
 use Prim.Native.Nat.{ℕ, suc, ◌+◌, ◌<◌, zero-le}
 use mathlib.Core.Path.{◌≡◌, sym, ap, ◌∙◌}
 use mathlib.Core.Bool.{Bool, true, false}

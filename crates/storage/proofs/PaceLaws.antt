@@ -1,4 +1,4 @@
--- The runs of an array: each is in one block, and the next begins after it. Assumes nothing.
+-- The runs of an array: each is in one block, and the next begins after it.
 use Prim.Native.Nat.{ℕ, ◌+◌, ◌-◌, ◌*◌, ◌/◌, ◌%◌, ◌≤◌, ◌<◌}
 use mathlib.Core.Path.{◌≡◌, refl, sym, ap, ◌∙◌}
 use mathlib.Core.Bool.{Bool, true, false}
@@ -41,7 +41,7 @@ module _ (l : Layout) (z : Sized l) where
         many-some = omega arith;
         few-some = omega arith;
         many-on = refl;
-        few_on = refl;
+        few-on = refl;
         many-cells = omega arith;
         few-cells = omega arith;
         many-inside = omega arith;
@@ -64,7 +64,7 @@ module _ (l : Layout) (z : Sized l) where
         many-some = quotient-pos a k z.block-pos h;
         few-some = omega arith;
         many-on = refl;
-        few_on = refl;
+        few-on = refl;
         many-cells = omega arith;
         few-cells = omega arith;
         many-inside = omega arith;
@@ -185,7 +185,7 @@ module _ (l : Layout) (z : Sized l) (p : Pace) (v : Paced l p) where
             rw e (later p.many_on v.many-blocks (r.column + p.rise) v.many-on (omega arith) (rw e (omega (arith, v.many-cells))))
         go false e =
             let c = ltb-false r.column p.limit e in
-            rw e (later p.few_on v.few-blocks (r.column - p.limit) v.few_on (omega (arith, w.column)) (rw e (omega (arith, v.few-cells))))
+            rw e (later p.few_on v.few-blocks (r.column - p.limit) v.few-on (omega (arith, w.column)) (rw e (omega (arith, v.few-cells))))
 
     pub within : (taken : ℕ) → r.index.0 + taken ≤ 2147483647 → Within p r taken
     within taken h =
@@ -194,7 +194,7 @@ module _ (l : Layout) (z : Sized l) (p : Pace) (v : Paced l p) where
           index = h;
           column = omega (arith, w.column, columns-low, z.block-high);
           many = omega (arith, v.many-on, mod-lt v.many-blocks z.processors-pos, z.processors-high);
-          few = omega (arith, v.few_on, mod-lt v.few-blocks z.processors-pos, z.processors-high);
+          few = omega (arith, v.few-on, mod-lt v.few-blocks z.processors-pos, z.processors-high);
         }
 
   -- its owner among the processors that there are

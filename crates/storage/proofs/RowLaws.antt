@@ -1,5 +1,4 @@
 -- A row of pointers: a pointer stands at its start plus how many of that processor's came before, for any owner of indices.
--- Assumes nothing.
 use Prim.Native.Nat.{ℕ, zero, suc, ◌+◌, ◌≤◌, ◌<◌}
 use mathlib.Core.Path.{◌≡◌, refl, sym, ap, ◌∙◌}
 use mathlib.Core.Bool.{Bool, true, false}

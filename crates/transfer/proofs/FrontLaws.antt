@@ -1,4 +1,4 @@
--- Writing entries one after another at the front of a list: what a loop keeps, and what the list is in the end. Assumes nothing.
+-- Writing entries one after another at the front of a list: what a loop keeps, and what the list is in the end.
 use Prim.Native.Nat.{ℕ, suc, ◌+◌, ◌≤◌, ◌<◌}
 use mathlib.Core.Path.{◌≡◌, refl, sym, ap, ◌∙◌, subst}
 use mathlib.Core.List.{List, [], ◌∷◌, ◌++◌, append_assoc}

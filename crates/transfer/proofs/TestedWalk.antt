@@ -1,4 +1,4 @@
--- A walk along the numbers below N that pass one test finds those that pass another test too. Assumes nothing.
+-- A walk along the numbers below N that pass one test finds those that pass another test too.
 use Prim.Native.Nat.{ℕ, zero, suc, ◌+◌, ◌-◌, ◌≤◌, ◌<◌}
 use mathlib.Core.Path.{◌≡◌, refl, sym, ap, ◌∙◌}
 use mathlib.Core.Bool.{Bool, true, false, ◌&&◌}

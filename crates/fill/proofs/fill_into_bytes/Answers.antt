@@ -1,7 +1,6 @@
 -- `fill_into_bytes` meets its contract: each case of the answer to its questions has its law.
 use mathlib.Core.Path.{◌≡◌, sym, ◌∙◌, subst}
-use borrow.Author.Rules.{rules}
-use Rattle.model.specs.Mappings.{Section, section_with}
+use Rattle.model.specs.Mappings.{section_with}
 use Rattle.fill.specs.Ready.{ready_of, SoundReady}
 use Rattle.fill.proofs.FillAnswers.{of-parameters, taken, bytes-done, bytes-refused}
 use Rattle.fill.proofs.fill_into_bytes.Goals as goal

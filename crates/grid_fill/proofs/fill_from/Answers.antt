@@ -1,6 +1,5 @@
 -- `fill_from` meets its contract: the fill by rows is the one from its place.
 use mathlib.Core.Path.{sym, subst}
-use borrow.Author.Rules.{rules}
 use Rattle.grid_section.specs.declared.places.Shares.{Shares}
 use Rattle.grid_fill.specs.Rows.{PlanOf}
 use Rattle.grid_fill.specs.Plans.{PlaceIn}
@@ -31,7 +30,7 @@ fill_rows-requires c =
     }
 
 pub returns : goal.returns
-returns c =
+returns c x o =
     let here = c.plan_of-plan.ensures.plan_of x o in
     let stands = c.stand_at-at.ensures x here in
     rw (← stands.1) (c.fill_rows.ensures x here stands.0)

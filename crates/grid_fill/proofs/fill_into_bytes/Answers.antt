@@ -1,6 +1,5 @@
 -- `fill_into_bytes` meets its contract: each case of the answer to its questions has its law.
 use mathlib.Core.Path.{◌≡◌, sym, ◌∙◌}
-use borrow.Author.Rules.{rules}
 use Rattle.model.specs.Grids.{GridSection, grid_section_with}
 use Rattle.grid_fill.specs.Ready.{ready_of}
 use Rattle.grid_fill.proofs.FillAnswers.{of-parameters, taken, bytes-done, bytes-refused}

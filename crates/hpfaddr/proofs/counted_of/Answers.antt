@@ -1,10 +1,9 @@
 -- `counted_of` meets its contract: the numbers that `local_count` answers fit the fields.
 use mathlib.Core.Path.{◌≡◌, sym, ap, ◌∙◌}
 use native.Mathlib.Omega.{arith}
-use borrow.Author.Rules.{rules}
 use mir.Syntax.{w64}
 use mir.ValLaws.{to_z-of_z}
-use Rattle.model.specs.Mappings.{Mapping, mapping_with}
+use Rattle.model.specs.Mappings.{mapping_with}
 use Rattle.model.specs.Calls.{LocalCountAnswer, local_count}
 use Rattle.model.proofs.AnswerLaws.{local-count-small}
 use Rattle.mapping.specs.Answers.{counted_as}

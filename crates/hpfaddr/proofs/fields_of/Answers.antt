@@ -1,7 +1,6 @@
 -- `fields_of` meets its contract: each case has its fields, and its numbers fit them.
 use mathlib.Core.Path.{sym, ap, subst}
 use native.Mathlib.Omega.{arith}
-use borrow.Author.Rules.{rules}
 use Rattle.mapping.specs.declared.Owned.TheVariants.{At}
 use Rattle.mapping.specs.Answers.{owned_as}
 use Rattle.hpfaddr.specs.Sizes.{OwnedFits}

@@ -1,13 +1,12 @@
 -- `found_of` meets its contract: the numbers that `going_back` answers fit the fields.
 use mathlib.Core.Path.{◌≡◌, sym, ap, ◌∙◌}
 use native.Mathlib.Omega.{arith}
-use borrow.Author.Rules.{rules}
 use lib.IntN.{ℤ}
 use mir.Syntax.{w32, w64}
 use mir.Val.{SFits}
 use mir.ValLaws.{to_z-of_z}
 use Rattle.numbers.proofs.Signed.{small-fits, back, fits-as, back_as}
-use Rattle.model.specs.Mappings.{Mapping, mapping_with}
+use Rattle.model.specs.Mappings.{mapping_with}
 use Rattle.model.specs.Calls.{GoingBackAnswer, going_back}
 use Rattle.model.proofs.AnswerLaws.{going-back-small}
 use Rattle.mapping.specs.Answers.{found_as}
@@ -41,7 +40,8 @@ pub overflow_cast-result : goal.overflow_cast-result
 overflow_cast-result c = fits-as w32 (read (goal.at.overflow_cast-result c).In-At) (fits (goal.at.overflow_cast-result c).In-At)
 
 pub returns-in-At : goal.returns-in-At
-returns-in-At c = rw (back_as w32 (read (goal.at.returns-in-At c).In-At) (fits (goal.at.returns-in-At c).In-At)) (found (goal.at.returns-in-At c).In-At)
+returns-in-At c = rw (back_as w32 (read (goal.at.returns-in-At c).In-At) (fits (goal.at.returns-in-At c).In-At))
+    (let whole = found (goal.at.returns-in-At c).In-At in record { result_value = whole.0; found_fits = whole.1 })
 
 pub returns-in-Refused : goal.returns-in-Refused
 returns-in-Refused c = let whole = with_size FoundFits (sym (ap found_as c.in-Refused.is) ∙ answer (goal.at.returns-in-Refused c).After-going_back) (going-back-small _ _ _) in record { result_value = whole.0; found_fits = whole.1 }

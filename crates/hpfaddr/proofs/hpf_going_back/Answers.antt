@@ -1,7 +1,6 @@
 -- `hpf_going_back` meets its contract: what `found_of` promises, of the parameters.
 use mathlib.Core.Path.{◌∙◌}
 use mathlib.Core.List.{[]}
-use borrow.Author.Rules.{rules}
 use mir.Syntax.{w64}
 use mir.ValLaws.{to_z-of_z}
 use Rattle.model.specs.Calls.{going_back}

@@ -1,7 +1,6 @@
 -- `hpf_ownership` meets its contract: what `owned_of` promises, of the parameters.
 use mathlib.Core.Path.{◌∙◌}
 use mathlib.Core.List.{[]}
-use borrow.Author.Rules.{rules}
 use mir.Syntax.{w64}
 use mir.ValLaws.{to_z-of_z}
 use Rattle.model.specs.Calls.{ownership}

@@ -1,9 +1,8 @@
 -- `owned_of` meets its contract: the numbers that `ownership` answers fit the fields.
 use mathlib.Core.Path.{◌≡◌, ◌∙◌}
-use borrow.Author.Rules.{rules}
 use mir.Syntax.{w64}
 use mir.ValLaws.{to_z-of_z}
-use Rattle.model.specs.Mappings.{Mapping, mapping_with}
+use Rattle.model.specs.Mappings.{mapping_with}
 use Rattle.model.specs.Calls.{ownership}
 use Rattle.model.proofs.AnswerLaws.{ownership-small}
 use Rattle.mapping.specs.Answers.{owned_as}

@@ -1,7 +1,6 @@
 -- `copy_cyclic` meets its contract.
 use native.Mathlib.Omega.{arith}
 use Rattle.storage.proofs.RowLaws.{starts-point}
-use borrow.Author.Rules.{rules}
 use Rattle.storage.proofs.copy_cyclic.Goals as goal
 
 pub copy_all-requires : goal.copy_all-requires

@@ -1,9 +1,8 @@
 -- `transfers` meets its contract: each case of the answer about the pair has its law.
 use mathlib.Core.Path.{◌≡◌, sym, ap, ◌∙◌, subst}
-use borrow.Author.Rules.{rules}
 use mir.Syntax.{w64}
 use mir.ValLaws.{to_z-of_z}
-use Rattle.model.specs.Mappings.{Section, section_with}
+use Rattle.model.specs.Mappings.{section_with}
 use Rattle.model.specs.Calls.{ToldApart}
 use Rattle.transfer.specs.declared.listing.Transferred.{Transferred}
 use Rattle.transfer.specs.Pairs.{pair_asked}

@@ -1,5 +1,4 @@
 -- `fill_long` meets its contract.
-use borrow.Author.Rules.{rules}
 use Rattle.fill.proofs.LongLaws.{plan-small, column-low}
 use Rattle.fill.proofs.long.fill_long.Goals as goal
 

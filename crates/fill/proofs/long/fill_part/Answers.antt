@@ -1,6 +1,5 @@
 -- `fill_part` meets its contract: the loop that the plan names gives the fill along the section's walk.
 use mathlib.Core.Path.{subst}
-use borrow.Author.Rules.{rules}
 use Rattle.fill.specs.declared.plan.Plan.TheVariants.{Constant, Learnt}
 use Rattle.fill.specs.declared.plan.Plan.{Plan}
 use Rattle.fill.specs.Starting.{Planned, InBlocks}

@@ -1,27 +1,22 @@
 -- `fill_periods` meets its contract.
 use Prim.Native.Nat.{◌+◌, ◌-◌, ◌*◌, ◌%◌}
-use mathlib.Core.Path.{◌≡◌, refl, sym, ◌∙◌}
+use mathlib.Core.Path.{◌≡◌, refl}
 use mathlib.Core.List.{◌++◌}
 use native.Mathlib.Nat.{mod-lt}
 use native.Mathlib.Omega.{arith}
 use lib.ListN.{length, drop}
-use lib.Seq.{length-take-le}
-use borrow.Author.Rules.{rules}
 use Rattle.fill.specs.Long.{Returned}
 use Rattle.fill.proofs.LongLaws.{plan-small, column-low, address-fits, long_same, long-ends, long-over, long-passes}
 use Rattle.fill.proofs.long.fill_periods.Goals as goal
 use Rattle.fill.proofs.long.fill_periods.Goals.{Then-has_returned}
 
 -- the list is as long as it was
-same_size : (c : Then-has_returned) → length (c.fill_part-first.new.1.1.0 ++ drop (4 * c.args.e) c.args.list.now) ≡ length c.args.list.now
+same_size : (c : Then-has_returned) → length (c.fill_part-first.new.list ++ drop (4 * c.args.e) c.args.list.now) ≡ length c.args.list.now
 same_size c = long_same c.args.s c.args.plan c.requires.0.blocks c.requires.0.planned c.requires.0.below c.requires.0.blocks.taken.source c.requires.0.blocks.taken.accepted c.requires.0.blocks.taken.same _ _ _ c.requires.2 _ c.fill_part-first.ensures
 
 -- the column has come back
 found : (c : Then-has_returned) → Returned c.args.s c.args.column c.args.e c.fill_part-first.result
 found c = c.has_returned.ensures c.if-has_returned.true
-
-pub slice_bounds-fill_part-end-2 : goal.slice_bounds-fill_part-end-2
-slice_bounds-fill_part-end-2 c = sym (length-take-le _ _ (omega arith))
 
 pub returns-then-w-u : goal.returns-then-w-u
 returns-then-w-u c =
@@ -30,9 +25,6 @@ returns-then-w-u c =
 
 pub overflow_add-add : goal.overflow_add-add
 overflow_add-add c = omega (arith, c.address_at.ensures, address-fits c.args.s.section c.requires.0.blocks.started.section-bounded _ c.if-w-u.false)
-
-pub overflow_sub-period : goal.overflow_sub-period
-overflow_sub-period c = omega (arith, (found (goal.at.overflow_sub-period c).Then-has_returned).later)
 
 pub pass_periods-requires : goal.pass_periods-requires
 pass_periods-requires c =
@@ -51,9 +43,6 @@ pass_periods-requires c =
       room = rw (same_size (goal.at.pass_periods-requires c).Then-has_returned) c.requires.2;
       add = mod-lt _ (omega arith);
     })
-
-pub shape_of-list-then-has_returned : goal.shape_of-list-then-has_returned
-shape_of-list-then-has_returned c = c.pass_periods.ensures.copied.size ∙ same_size (goal.at.shape_of-list-then-has_returned c).Then-has_returned
 
 pub returns-then-has_returned : goal.returns-then-has_returned
 returns-then-has_returned c =

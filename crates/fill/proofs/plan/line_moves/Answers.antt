@@ -1,9 +1,5 @@
 -- `line_moves` meets its contract: courses and columns are small, so that the sums fit.
-use mathlib.Core.Path.{◌∙◌}
 use native.Mathlib.Omega.{arith}
-use borrow.Author.Rules.{rules}
-use Rattle.model.specs.declared.Steps.TheVariants.{TwoSteps}
-use Rattle.fill.specs.SectionMoves.{moves_by}
 use Rattle.fill.proofs.PlanLaws.{taken-bounded, taken-spread, Lines, lines}
 use Rattle.fill.proofs.plan.line_moves.Goals as goal
 use Rattle.fill.proofs.plan.line_moves.Goals.{Start}
@@ -31,8 +27,3 @@ overflow_add-near-2 c = omega (arith, small (goal.at.overflow_add-near-2 c).Star
 
 pub moves_by-requires : goal.moves_by-requires
 moves_by-requires c = omega (arith, c.spread_of.ensures, taken-spread _ c.requires.0)
-
-pub returns : goal.returns
-returns c =
-    c.moves_by.ensures
-    ∙ (λ i. moves_by c.args.w.layout.block (c.spread_of.ensures i) (TwoSteps c.args.r c.args.b) (c.onward_by.ensures i) (c.onward_by-2.ensures i) (c.onward_by-3.ensures i))

@@ -1,5 +1,4 @@
 -- `moves_by` meets its contract.
-use borrow.Author.Rules.{rules}
 use Rattle.fill.specs.SectionMoves.{moves_by}
 use Rattle.fill.proofs.plan.moves_by.Goals as goal
 

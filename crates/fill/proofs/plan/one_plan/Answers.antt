@@ -2,7 +2,6 @@
 use Prim.Native.Nat.{ℕ, ◌/◌}
 use mathlib.Core.Path.{ap}
 use native.Mathlib.Omega.{arith}
-use borrow.Author.Rules.{rules}
 use Rattle.fill.proofs.PlanLaws.{taken-bounded, taken-spread, one-planned}
 use Rattle.fill.proofs.plan.one_plan.Goals as goal
 
@@ -14,9 +13,6 @@ nonzero_div-a c = omega (arith, c.spread_of.ensures, taken-spread _ c.requires.0
 
 pub period-requires : goal.period-requires
 period-requires c = (taken-bounded _ c.requires.0, c.requires.1)
-
-pub same_plan-requires : goal.same_plan-requires
-same_plan-requires c = (c.requires.0, c.requires.2)
 
 pub returns : goal.returns
 returns c =

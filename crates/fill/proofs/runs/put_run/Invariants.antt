@@ -1,14 +1,9 @@
 -- `put_run` meets its contract. The invariant: storing what is left into the list as it is comes to the same. The measure: the
 -- entries that are left.
-use Prim.Native.Nat.{ℕ, suc, ◌+◌, ◌-◌, ◌*◌, ◌%◌, ◌≤◌, ◌<◌}
-use mathlib.Core.Path.{◌≡◌, refl, sym, ap, ◌∙◌}
-use mathlib.Core.List.{List}
-use native.Mathlib.Nat.{mod-lt}
-use native.Mathlib.Numerals.{add-one}
-use native.Mathlib.Omega.{arith}
+use Prim.Native.Nat.{◌-◌, ◌≤◌, ◌<◌}
+use mathlib.Core.Path.{◌≡◌}
 use lib.ListN.{length}
-use Rattle.numbers.proofs.WordLaws.{store_length}
-use Rattle.model.specs.ByteFills.{store_entry, store_entries}
+use Rattle.model.specs.ByteFills.{store_entries}
 use Rattle.fill.specs.RunFills.{addresses_from}
 use Rattle.fill.proofs.runs.put_run.Given as goal
 

@@ -1,15 +1,11 @@
 -- `fill_blocks` meets its contract: the loop that the plan names gives the fill along the section's walk.
 use mathlib.Core.Path.{subst}
-use borrow.Author.Rules.{rules}
 use Rattle.fill.specs.declared.plan.Plan.TheVariants.{Constant, Learnt}
 use Rattle.fill.specs.Starting.{Planned}
 use Rattle.fill.proofs.ReadyLaws.{elements-placed}
 use Rattle.fill.proofs.StartLaws.{constant-starts, learnt-starts, bytes-constant, bytes-learnt}
 use Rattle.fill.proofs.start.fill_blocks.Goals as goal
 use Rattle.fill.proofs.start.fill_blocks.Goals.{In-Constant, In-Learnt}
-
-pub plan_of-requires : goal.plan_of-requires
-plan_of-requires c = (c.requires.taken, c.requires.started.processor)
 
 -- the plan, in each of its cases
 constant : (c : In-Constant) → Planned c.args.s.section c.args.s.processor (Constant c.in-Constant.m)

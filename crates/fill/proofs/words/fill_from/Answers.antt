@@ -2,62 +2,37 @@
 use Prim.Native.Nat.{◌+◌, ◌-◌, ◌≤◌}
 use native.Mathlib.Omega.{arith}
 use lib.ListN.{length, length-take, length-drop}
-use borrow.Author.Rules.{rules}
-use Rattle.fill.proofs.ChunkLaws.{Chunked, chunks_start, bounds, rest-accepted, chunk-some, chunk-on, chunks-full, chunks-count, chunks-quota}
+use Rattle.fill.proofs.ChunkLaws.{bounds, chunk-some, chunk-on, chunks-full, chunks-count, chunks-quota}
 use Rattle.fill.proofs.words.fill_from.Goals as goal
 use Rattle.fill.proofs.words.fill_from.Goals.{After-fill_chunk-r}
 
-pub loop-n-init : goal.loop-n-init
-loop-n-init c = chunks_start c.requires c.args.list.now
-
-pub overflow_sub-s : goal.overflow_sub-s
-overflow_sub-s c = (bounds c.requires c.loop-n.invariant).0
-
-pub overflow_sub-chunk : goal.overflow_sub-chunk
-overflow_sub-chunk c = (bounds c.requires c.loop-n.invariant).0
-
-pub offset_bounds-list-n : goal.offset_bounds-list-n
-offset_bounds-list-n c = omega (arith, c.loop-n-test.true, c.loop-n.inv.same, c.good.1.0.0)
-
-pub fill_chunk-r-requires : goal.fill_chunk-r-requires
-fill_chunk-r-requires c = (rest-accepted c.requires c.loop-n.inv c.if-s-paid-lt-LEAST_TRIES.false, simp length-take (omega (arith, c.chunk_end-end.ensures)))
-
 -- after a chunk no more is paid than the quota, and written than there are entries
 after : (c : After-fill_chunk-r) → (c.loop-n.paid + c.fill_chunk-r.result.tries ≤ c.args.s.quota) × (c.loop-n.n + c.fill_chunk-r.result.entries ≤ length c.args.list.now)
-after c = bounds c.requires (chunk-on c.requires c.loop-n.inv (c.chunk_end-end.result - c.loop-n.n) c.fill_chunk-r.ensures)
+after c = bounds c.requires (chunk-on c.requires c.loop-n.invariant (c.chunk_end-end.result - c.loop-n.n) c.fill_chunk-r.ensures)
 
 pub overflow_add-paid : goal.overflow_add-paid
 overflow_add-paid c = omega (arith, (after (goal.at.overflow_add-paid c).After-fill_chunk-r).0, c.requires.started.most)
 
 pub overflow_add-n : goal.overflow_add-n
-overflow_add-n c = omega (arith, (after (goal.at.overflow_add-n c).After-fill_chunk-r).1, c.good.1.0.0)
+overflow_add-n c = omega (arith, (after (goal.at.overflow_add-n c).After-fill_chunk-r).1)
 
 pub loop-n-smaller : goal.loop-n-smaller
 loop-n-smaller c =
     omega (
       arith,
       (after (goal.at.loop-n-smaller c).After-fill_chunk-r).1,
-      chunk-some c.requires c.loop-n.inv (c.chunk_end-end.result - c.loop-n.n) c.fill_chunk-r.ensures c.if-place-w.false
+      chunk-some c.requires c.loop-n.invariant (c.chunk_end-end.result - c.loop-n.n) c.fill_chunk-r.ensures c.if-place-w.false
           c.if-s-paid-lt-LEAST_TRIES.false (simp (length-take, length-drop) (omega (arith, c.chunk_end-end.ensures))),
     )
 
 pub loop-n-preserved : goal.loop-n-preserved
-loop-n-preserved c = chunk-on c.requires c.loop-n.inv (c.chunk_end-end.result - c.loop-n.n) c.fill_chunk-r.ensures
-
-pub shape_of-list-after-loop-n : goal.shape_of-list-after-loop-n
-shape_of-list-after-loop-n c = c.loop-n.invariant.same
+loop-n-preserved c = chunk-on c.requires c.loop-n.invariant (c.chunk_end-end.result - c.loop-n.n) c.fill_chunk-r.ensures
 
 pub returns-after-loop-n : goal.returns-after-loop-n
 returns-after-loop-n c = chunks-full c.requires c.loop-n.invariant c.loop-n-test.false
 
-pub shape_of-list-then-place-w : goal.shape_of-list-then-place-w
-shape_of-list-then-place-w c = c.loop-n.invariant.same
-
 pub returns-then-place-w : goal.returns-then-place-w
 returns-then-place-w c = chunks-count c.requires c.loop-n.invariant c.if-place-w.true
-
-pub shape_of-list-then-s-paid-lt-LEAST_TRIES : goal.shape_of-list-then-s-paid-lt-LEAST_TRIES
-shape_of-list-then-s-paid-lt-LEAST_TRIES c = c.loop-n.invariant.same
 
 pub returns-then-s-paid-lt-LEAST_TRIES : goal.returns-then-s-paid-lt-LEAST_TRIES
 returns-then-s-paid-lt-LEAST_TRIES c = chunks-quota c.requires c.loop-n.invariant c.if-s-paid-lt-LEAST_TRIES.true

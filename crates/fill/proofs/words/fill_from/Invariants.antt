@@ -1,9 +1,7 @@
 -- `fill_from` meets its contract: each chunk goes on where the one before it ended.
-use Prim.Native.Nat.{◌+◌, ◌-◌, ◌≤◌}
-use native.Mathlib.Omega.{arith}
-use lib.ListN.{length, length-take, length-drop}
-use borrow.Author.Rules.{rules}
-use Rattle.fill.proofs.ChunkLaws.{Chunked, chunks_start, bounds, rest-accepted, chunk-some, chunk-on, chunks-full, chunks-count, chunks-quota}
+use Prim.Native.Nat.{◌-◌}
+use lib.ListN.{length}
+use Rattle.fill.proofs.ChunkLaws.{Chunked}
 use Rattle.fill.proofs.words.fill_from.Given as goal
 
 abbrev pub invariant-loop-n : goal.invariant-loop-n

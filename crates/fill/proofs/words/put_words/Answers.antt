@@ -1,6 +1,6 @@
 -- `put_words` meets its contract.
-use Prim.Native.Nat.{ℕ, suc, ◌+◌, ◌-◌, ◌≤◌, ◌<◌}
-use mathlib.Core.Path.{◌≡◌, refl, sym}
+use Prim.Native.Nat.{ℕ, suc, ◌+◌, ◌<◌}
+use mathlib.Core.Path.{◌≡◌, sym}
 use mathlib.Core.List.{List, ◌++◌}
 use native.Mathlib.Numerals.{add-one}
 use native.Mathlib.Omega.{arith}
@@ -17,18 +17,9 @@ more ws l i h k =
     rw (add-one, drop-cons l i 0 k, set_at (take i ws) (get_or l i 0) (drop (suc i) l) (get_or ws i 0) i (length-take-le i ws (omega arith)), take-suc ws i 0 h)
     (sym (append_snoc (take i ws) (get_or ws i 0) (drop (suc i) l)))
 
-pub loop-i-init : goal.loop-i-init
-loop-i-init c = (omega arith, refl, refl)
-
 pub loop-i-preserved : goal.loop-i-preserved
-loop-i-preserved c =
-    (
-      search rules,
-      simp length-set c.loop-i.invariant.1,
-      rw (c.loop-i.invariant.2, c.word_at.ensures) (more (words_of 4 c.args.bytes.now) c.args.list.now c.loop-i.i (omega (arith, words-length 4 c.args.bytes.now)) (omega arith)),
-    )
-
-pub returns : goal.returns
-returns c =
-    let e : c.loop-i.i ≡ c.args.n = omega arith in
-    rw e at c.loop-i.invariant.2
+loop-i-preserved c = (
+  search rules,
+  simp length-set c.loop-i.invariant.1,
+  rw (c.loop-i.invariant.2, c.word_at.ensures) (more (words_of 4 c.args.bytes.now) c.args.list.now c.loop-i.i (omega (arith, words-length 4 c.args.bytes.now)) (omega arith)),
+)

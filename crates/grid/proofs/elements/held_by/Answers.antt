@@ -1,4 +1,4 @@
--- `held_by_lem` meets its contract.
+-- `held_by` meets its contract.
 use mathlib.Core.Path.{ap, ◌∙◌}
 use Rattle.mapping.specs.Parts.{held_in}
 use Rattle.grid.proofs.elements.held_by.Goals as goal

@@ -6,19 +6,15 @@ use mathlib.Core.Logic.{◌⊎◌, inl, inr}
 use mathlib.Core.List.{List}
 use native.Mathlib.Nat.{mod-lt, add-zero}
 use native.Mathlib.Omega.{arith}
-use borrow.Author.Rules.{rules}
 use lib.ListN.{length, get_or, take, drop}
 use lib.Seq.{drop-cons, get_or-set_other}
 use Rattle.numbers.specs.Words.{words_of}
 use Rattle.numbers.proofs.WordLaws.{words-length, words-store, store_length}
 use Rattle.model.specs.ByteFills.{store_entry, store_entries}
 use Rattle.grid_fill.specs.Entries.{higher}
+use Rattle.grid_fill.proofs.entries.put_higher.Invariants.{left}
 use Rattle.grid_fill.proofs.entries.put_higher.Goals as goal
 use Rattle.grid_fill.proofs.entries.put_higher.Goals.{In-loop-i}
-
--- what is to be stored after i entries
-abbrev left : List ℕ → ℕ → ℕ → ℕ → ℕ → List ℕ
-left l₀ from n add i = higher add (take (n - i) (drop (from + i) (words_of 4 l₀)))
 
 -- one entry stored, and the rest after it
 on : (l₀ l : List ℕ) (from to n add i : ℕ) → i < n → from + n ≤ length l₀ / 4
@@ -48,13 +44,13 @@ reads : (c : In-loop-i) → (c.args.from + c.args.n ≤ length c.loop-i.list / 4
 reads c = rw c.loop-i.invariant.1 (room_of c.args.from c.args.to c.args.n _ c.requires.1 c.requires.0, c.requires.0)
 
 pub overflow_add-from : goal.overflow_add-from
-overflow_add-from c = omega (arith, (reads (goal.at.overflow_add-from c).In-loop-i).0, c.loop-i-test.true, c.good.0.0, c.loop-i.invariant.1)
+overflow_add-from c = omega (arith, (reads (goal.at.overflow_add-from c).In-loop-i).0, c.loop-i-test.true, c.loop-i.invariant.1)
 
 pub word_at-x-requires : goal.word_at-x-requires
 word_at-x-requires c = omega (arith, (reads (goal.at.word_at-x-requires c).In-loop-i).0, c.loop-i-test.true)
 
 pub overflow_add-to : goal.overflow_add-to
-overflow_add-to c = omega (arith, (reads (goal.at.overflow_add-to c).In-loop-i).1, c.loop-i-test.true, c.well-formed.0.0, c.loop-i.invariant.1)
+overflow_add-to c = omega (arith, (reads (goal.at.overflow_add-to c).In-loop-i).1, c.loop-i-test.true, c.loop-i.invariant.1)
 
 pub overflow_add-x : goal.overflow_add-x
 overflow_add-x c = omega (arith, c.requires.2)
@@ -78,7 +74,7 @@ loop-i-preserved c =
     let read : c.word_at-x.result ≡ get_or (words_of 4 c.args.list.now) (c.args.from + c.loop-i.i) 0 = c.word_at-x.ensures ∙ c.loop-i.invariant.3 c.loop-i.i (omega arith) c.loop-i-test.true in
     let x : ℕ = (get_or (words_of 4 c.args.list.now) (c.args.from + c.loop-i.i) 0 + c.args.add) % 4294967296 in
     let low : x < 4294967296 = mod-lt _ (omega arith) in
-    let is : c.put_entry.new.0 ≡ store_entry c.loop-i.list (c.args.to + c.loop-i.i) x =
+    let is : c.put_entry.new.list ≡ store_entry c.loop-i.list (c.args.to + c.loop-i.i) x =
     c.put_entry.ensures ∙ ap (λ (z : ℕ). store_entry c.loop-i.list (c.args.to + c.loop-i.i) ((z + c.args.add) % 4294967296)) read in (
       omega (arith, c.loop-i-test.true),
       ap length is ∙ store_length 4 (4 * (c.args.to + c.loop-i.i)) x c.loop-i.list ∙ c.loop-i.invariant.1,

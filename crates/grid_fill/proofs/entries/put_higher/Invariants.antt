@@ -1,19 +1,17 @@
 -- `put_higher` meets its contract. The invariant: storing what is left into the list as it is comes to the same, and the words
 -- that are still to be read are as they were.
-use Prim.Native.Nat.{ℕ, suc, ◌+◌, ◌-◌, ◌*◌, ◌/◌, ◌%◌, ◌≤◌, ◌<◌}
-use mathlib.Core.Path.{◌≡◌, refl, sym, ap, ◌∙◌}
-use mathlib.Core.Logic.{◌⊎◌, inl, inr}
+use Prim.Native.Nat.{ℕ, ◌+◌, ◌-◌, ◌≤◌, ◌<◌}
+use mathlib.Core.Path.{◌≡◌}
 use mathlib.Core.List.{List}
-use native.Mathlib.Nat.{mod-lt, add-zero}
-use native.Mathlib.Omega.{arith}
-use borrow.Author.Rules.{rules}
 use lib.ListN.{length, get_or, take, drop}
-use lib.Seq.{drop-cons, get_or-set_other}
 use Rattle.numbers.specs.Words.{words_of}
-use Rattle.numbers.proofs.WordLaws.{words-length, words-store, store_length}
-use Rattle.model.specs.ByteFills.{store_entry, store_entries}
+use Rattle.model.specs.ByteFills.{store_entries}
 use Rattle.grid_fill.specs.Entries.{higher}
 use Rattle.grid_fill.proofs.entries.put_higher.Given as goal
+
+-- what is to be stored after i entries
+abbrev pub left : List ℕ → ℕ → ℕ → ℕ → ℕ → List ℕ
+left l₀ from n add i = higher add (take (n - i) (drop (from + i) (words_of 4 l₀)))
 
 abbrev pub invariant-loop-i : goal.invariant-loop-i
 invariant-loop-i l =

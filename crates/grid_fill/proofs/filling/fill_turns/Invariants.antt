@@ -1,13 +1,10 @@
 -- `fill_turns` meets its contract: each turn goes on where the one before it ended.
 use Prim.Native.Nat.{◌-◌, ◌/◌, ◌≤◌}
-use mathlib.Core.Path.{◌≡◌, refl, ap, ◌∙◌}
-use native.Mathlib.Omega.{arith}
-use borrow.Author.Rules.{rules}
+use mathlib.Core.Path.{◌≡◌}
 use lib.ListN.{length}
 use Rattle.model.specs.Grids.{GridSection}
-use Rattle.model.proofs.ByteStores.{stores-length}
-use Rattle.grid_fill.specs.Rows.{PlanOf, Standing, Turned}
-use Rattle.grid_fill.proofs.FillingLaws.{Filling, filling-starts, filling-turns, ends-full, ends-count, ends-quota}
+use Rattle.grid_fill.specs.Rows.{PlanOf, Standing}
+use Rattle.grid_fill.proofs.FillingLaws.{Filling}
 use Rattle.grid_fill.proofs.filling.fill_turns.Given as goal
 
 abbrev pub invariant-loop-n : goal.invariant-loop-n

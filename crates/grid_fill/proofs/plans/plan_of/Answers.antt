@@ -49,7 +49,9 @@ way_of-requires-3 c = third-accepted (goal.at.way_of-requires-3 c).Start
 
 pub returns : goal.returns
 returns c =
-    record { result_value = refl; plan_of = λ x o.
+    record {
+      result_value = refl;
+      plan_of = λ x o.
           let first-ok = first-yes x o.accepted in
           let second-ok = second-yes x o.accepted in
           record {
@@ -65,4 +67,5 @@ returns c =
             few = omega (arith, o.rows_are, held-few (sections_of x).second second-ok c.args.s.second.processor);
             enter = c.first_of-enter.ensures ∙ first-is (sections_of x).first first-ok c.args.s.first o.first;
             row = c.first_of-row.ensures ∙ first-is (sections_of x).second second-ok c.args.s.second o.second;
-          } }
+          };
+    }

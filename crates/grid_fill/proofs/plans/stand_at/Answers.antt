@@ -54,7 +54,7 @@ pub nonzero_div-v : goal.nonzero_div-v
 nonzero_div-v c = second-some (goal.at.nonzero_div-v c).Then-place-product_of
 
 pub returns-then-place-product_of : goal.returns-then-place-product_of
-returns-then-place-product_of c = stands-inside x (p (goal.at.returns-then-place-product_of c).Then-place-product_of) o (t (goal.at.returns-then-place-product_of c).Then-place-product_of) c.requires.place (inside (goal.at.returns-then-place-product_of c).Then-place-product_of)
+returns-then-place-product_of c x o = stands-inside x (p (goal.at.returns-then-place-product_of c).Then-place-product_of) o (t (goal.at.returns-then-place-product_of c).Then-place-product_of) c.requires.place (inside (goal.at.returns-then-place-product_of c).Then-place-product_of)
 
 pub returns : goal.returns
-returns c = stands-end x c.args.p o c.args.place.0 c.requires.place (omega (arith, c.if-place-product_of.false, c.product_of.ensures))
+returns c x o = stands-end x c.args.p o c.args.place.0 c.requires.place (omega (arith, c.if-place-product_of.false, c.product_of.ensures))

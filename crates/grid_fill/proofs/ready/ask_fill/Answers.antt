@@ -1,6 +1,5 @@
 -- `ask_fill` meets its contract: each case of the answer to the questions about the section has its law.
 use mathlib.Core.Path.{sym, ◌∙◌, subst}
-use borrow.Author.Rules.{rules}
 use mir.Syntax.{w64}
 use mir.ValLaws.{to_z-of_z}
 use Rattle.grid_section.specs.Lines.{Sound}
@@ -10,11 +9,10 @@ use Rattle.grid_fill.proofs.ReadyLaws.{ready_by_lem, ready_refused}
 use Rattle.grid_fill.proofs.ready.ask_fill.Goals as goal
 
 pub ready_in-requires : goal.ready_in-requires
-ready_in-requires c =
-    (
-      subst Sound c.in-By.is c.ask_lines.ensures.sound,
-      listed _ _ _ _ (passed c.args.x c.args.b.now c.args.c.now c.args.d.now _ (sym c.ask_lines.ensures.value ∙ c.in-By.is)),
-    )
+ready_in-requires c = (
+  subst Sound c.in-By.is c.ask_lines.ensures.sound,
+  listed _ _ _ _ (passed c.args.x c.args.b.now c.args.c.now c.args.d.now _ (sym c.ask_lines.ensures.value ∙ c.in-By.is)),
+)
 
 pub returns-in-By : goal.returns-in-By
 returns-in-By c =

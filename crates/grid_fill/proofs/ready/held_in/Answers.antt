@@ -1,6 +1,5 @@
 -- `held_in` meets its contract: what the part has is what the owners say.
 use mathlib.Core.Path.{ap, ◌∙◌}
-use borrow.Author.Rules.{rules}
 use Rattle.model.specs.Mappings.{dealing_with}
 use Rattle.mapping.specs.Parts as parts
 use Rattle.mapping.proofs.PartLaws.{covered, held-part}

@@ -2,8 +2,6 @@
 use Prim.Native.Nat.{ℕ, ◌<◌}
 use mathlib.Core.Path.{◌≡◌, sym, ap, ◌∙◌, subst}
 use mathlib.Core.Bool.{true}
-use borrow.Author.Rules.{rules}
-use borrow.Author.Tests.{not-true, not-false}
 use lib.IntN.{pos}
 use mir.Syntax.{w64}
 use Rattle.numbers.proofs.Signed.{read_of}
@@ -74,19 +72,19 @@ pub is_place-requires : goal.is_place-requires
 is_place-requires c = subst AllFitted (sym c.shares_of-shares.ensures) (all_in (goal.at.is_place-requires c).After-shares_of-shares)
 
 -- the answer to question 10, of the parameters
-place-said : (c : After-is_place) → c.is_place.result ≡ is_place_by (((shares_at c) (nat c.args.processor))) c.args.place
+place-said : (c : After-is_place) → c.is_place.result ≡ is_place_by ((shares_on c.args.x c.args.b.now c.args.c.now c.args.d.now (nat c.args.processor))) c.args.place
 place-said c =
     read_of w64 (is_place_by c.shares_of-shares.result) c.args.place c.ranges.place c.is_place.ensures
-    ∙ (λ i. is_place_by ((c.shares_of-shares.ensures ∙ ap (shares_at c) ((read_of w64 nat c.args.processor c.ranges.processor c.natural.ensures))) i) c.args.place)
+    ∙ (λ i. is_place_by ((c.shares_of-shares.ensures ∙ ap (shares_on c.args.x c.args.b.now c.args.c.now c.args.d.now) ((read_of w64 nat c.args.processor c.ranges.processor c.natural.ensures))) i) c.args.place)
 
 pub returns-then-not-is_place : goal.returns-then-not-is_place
 unfolding ready_in first_no
 returns-then-not-is_place c = rw (eighth (goal.at.returns-then-not-is_place c).After-natural, sym (place-said (goal.at.returns-then-not-is_place c).After-is_place) ∙ c.if-not-is_place.true)
 
-tenth : (c : Else-not-is_place) → is_place_by (((shares_at c) (nat c.args.processor))) c.args.place ≡ true
+tenth : (c : Else-not-is_place) → is_place_by ((shares_on c.args.x c.args.b.now c.args.c.now c.args.d.now (nat c.args.processor))) c.args.place ≡ true
 tenth c =
     sym ((read_of w64 (is_place_by c.shares_of-shares.result) c.args.place c.ranges.place c.is_place.ensures
-    ∙ (λ i. is_place_by ((c.shares_of-shares.ensures ∙ ap (shares_at c) ((read_of w64 nat c.args.processor c.ranges.processor c.natural.ensures))) i) c.args.place))) ∙ c.if-not-is_place.false
+    ∙ (λ i. is_place_by ((c.shares_of-shares.ensures ∙ ap (shares_on c.args.x c.args.b.now c.args.c.now c.args.d.now) ((read_of w64 nat c.args.processor c.ranges.processor c.natural.ensures))) i) c.args.place))) ∙ c.if-not-is_place.false
 
 pub returns-then-not-within : goal.returns-then-not-within
 unfolding ready_in first_no

@@ -1,6 +1,5 @@
 -- `addresses_from` meets its contract.
 use lib.Dec.{lit≤}
-use borrow.Author.Rules.{rules}
 use Rattle.grid_fill.proofs.ShareFills.{place-accepted}
 use Rattle.grid_fill.proofs.steps.addresses_from.Goals as goal
 

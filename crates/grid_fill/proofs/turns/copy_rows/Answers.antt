@@ -4,7 +4,6 @@ use mathlib.Core.Path.{refl, sym, ap, ◌∙◌, subst}
 use mathlib.Core.List.{List}
 use native.Mathlib.Nat.{mul-le-mul_right}
 use native.Mathlib.Omega.{arith}
-use borrow.Author.Rules.{rules}
 use lib.ListN.{length}
 use Rattle.model.specs.Grids.{sections_of}
 use Rattle.model.proofs.GridAccepted.{third-yes}
@@ -33,7 +32,7 @@ copying c =
 -- the list of their addresses
 abbrev listed : (c : After-addresses_from-r) → List ℕ
 listed c =
-    c.addresses_from-r.last.1.1.1.0
+    c.addresses_from-r.new.list
 
 abbrev count : (c : After-addresses_from-r) → ℕ
 count c =
@@ -48,8 +47,8 @@ bounds : (c : After-addresses_from-r) → ((count c) * c.args.w.entries ≤ leng
     × (c.args.n + (count c) * c.args.w.entries ≤ length c.args.list.now / 4)
 bounds c =
     let e = mul-le-mul_right c.args.w.entries (few c) in
-    let c = mul-le-mul_right c.args.w.tries (few c) in
-    (omega (arith, e, (copying c).room), omega (arith, c, (copying c).tries), omega (arith, e, (copying c).room))
+    let g = mul-le-mul_right c.args.w.tries (few c) in
+    (omega (arith, e, (copying c).room), omega (arith, g, (copying c).tries), omega (arith, e, (copying c).room))
 
 pub put_rows-requires : goal.put_rows-requires
 put_rows-requires c =
@@ -74,14 +73,14 @@ put_rows-requires c =
           );
     }
 
-pub OLD-overflow-mul-t23 : goal.OLD-overflow-mul-t23
-OLD-overflow-mul-t23 c = omega (arith, (bounds (goal.at.OLD-overflow-mul-t23 c).After-addresses_from-r).0, c.well-formed.1.1.1.1.1.0.0)
+pub overflow_mul-result : goal.overflow_mul-result
+overflow_mul-result c = omega (arith, (bounds (goal.at.overflow_mul-result c).After-addresses_from-r).0)
 
-pub OLD-overflow-mul-t25 : goal.OLD-overflow-mul-t25
-OLD-overflow-mul-t25 c = omega (arith, (bounds (goal.at.OLD-overflow-mul-t25 c).After-addresses_from-r).1)
+pub overflow_mul-result-2 : goal.overflow_mul-result-2
+overflow_mul-result-2 c = omega (arith, (bounds (goal.at.overflow_mul-result-2 c).After-addresses_from-r).1)
 
 pub returns : goal.returns
-returns c =
+returns c x o st known quota fits =
     let b = begun (goal.at.returns c).After-addresses_from-r in
     let v = going-in b x o in
     let in-planes = (c.requires.begun.1 (sections_of x).third (third-yes x o.accepted) o.third.share).1 in

@@ -5,7 +5,6 @@ use mathlib.Core.List.{List}
 use native.Mathlib.Omega.{arith}
 use lib.ListN.{length, take}
 use lib.Seq.{length-take-le}
-use borrow.Author.Rules.{rules}
 use Rattle.grid_fill.specs.Turns.{Copying, Copied}
 use Rattle.grid_fill.proofs.turns.copy_turn.Goals as goal
 
@@ -21,5 +20,5 @@ copy_rows-requires c = record { begun = c.requires.begun; copying = subst (λ (k
 
 pub returns : goal.returns
 returns c =
-    subst (λ (k : ℕ). Copied c.args.p c.args.at c.args.w k c.args.n c.args.list.now c.copy_rows.new.1.1.1.1.1.0 c.copy_rows.result)
+    subst (λ (k : ℕ). Copied c.args.p c.args.at c.args.w k c.args.n c.args.list.now c.copy_rows.new.list c.copy_rows.result)
     (sym (short _ c.args.count refl c.requires.copying.most)) c.copy_rows.ensures

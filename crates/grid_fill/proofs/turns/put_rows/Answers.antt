@@ -5,7 +5,6 @@ use mathlib.Core.Logic.{inr}
 use native.Mathlib.Nat.{mod-lt, mul-le-mul_right, suc-mul}
 use native.Mathlib.Numerals.{add-one}
 use native.Mathlib.Omega.{arith}
-use borrow.Author.Rules.{rules}
 use lib.ListN.{length, take, drop}
 use Rattle.numbers.specs.Words.{words_of}
 use Rattle.model.specs.ByteFills.{store_entries}
@@ -25,7 +24,7 @@ loop-j-init c = (omega arith, refl, refl)
 room : (c : In-loop-j) → c.args.n + c.loop-j.j * c.args.w.entries + c.args.w.entries ≤ length c.loop-j.list / 4
 room c =
     let more : suc c.loop-j.j * c.args.w.entries ≤ c.args.count * c.args.w.entries = mul-le-mul_right c.args.w.entries c.loop-j-test.true in
-    rw c.loop-j.inv.1 (omega (arith, more, suc-mul c.loop-j.j c.args.w.entries, c.requires.room))
+    rw c.loop-j.invariant.1 (omega (arith, more, suc-mul c.loop-j.j c.args.w.entries, c.requires.room))
 
 pub word_at-requires : goal.word_at-requires
 word_at-requires c = omega (arith, c.loop-j-test.true, c.requires.listed)
@@ -63,10 +62,10 @@ pub overflow_add-add : goal.overflow_add-add
 overflow_add-add c = omega (arith, c.requires.base, low (goal.at.overflow_add-add c).After-word_at)
 
 pub overflow_mul-j : goal.overflow_mul-j
-overflow_mul-j c = omega (arith, room (goal.at.overflow_mul-j c).In-loop-j, c.loop-j.invariant.1, c.well-formed.1.1.1.1.1.1.0.0)
+overflow_mul-j c = omega (arith, room (goal.at.overflow_mul-j c).In-loop-j, c.loop-j.invariant.1)
 
 pub overflow_add-n : goal.overflow_add-n
-overflow_add-n c = omega (arith, room (goal.at.overflow_add-n c).In-loop-j, c.loop-j.invariant.1, c.well-formed.1.1.1.1.1.1.0.0)
+overflow_add-n c = omega (arith, room (goal.at.overflow_add-n c).In-loop-j, c.loop-j.invariant.1)
 
 pub put_higher-requires : goal.put_higher-requires
 put_higher-requires c = (omega (arith, room (goal.at.put_higher-requires c).In-loop-j), inr (omega (arith, c.requires.before)), mod-lt _ (omega arith))
@@ -82,9 +81,9 @@ unfolding put_rows
 loop-j-preserved c =
     let bases = base_at c.args.elements c.args.rows c.args.plane.0 c.args.addresses.now in (
       omega (arith, c.loop-j-test.true),
-      ap length c.put_higher.ensures ∙ stores-length c.loop-j.list _ _ ∙ c.loop-j.inv.1,
+      ap length c.put_higher.ensures ∙ stores-length c.loop-j.list _ _ ∙ c.loop-j.invariant.1,
       c.put_higher.ensures
-          ∙ (λ k. store_entries (c.loop-j.inv.2 k) (c.args.n + c.loop-j.j * c.args.w.entries) (higher ((is (goal.at.loop-j-preserved c).After-word_at k + (4294967296 - c.args.w.base)) % 4294967296) (take c.args.w.entries (drop c.args.w.from (words_of 4 (c.loop-j.inv.2 k))))))
+          ∙ (λ k. store_entries (c.loop-j.invariant.2 k) (c.args.n + c.loop-j.j * c.args.w.entries) (higher ((is (goal.at.loop-j-preserved c).After-word_at k + (4294967296 - c.args.w.base)) % 4294967296) (take c.args.w.entries (drop c.args.w.from (words_of 4 (c.loop-j.invariant.2 k))))))
           ∙ ap (put_rows bases c.args.w c.args.list.now c.args.n) (sym (add-one c.loop-j.j)),
     )
 

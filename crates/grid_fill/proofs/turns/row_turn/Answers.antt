@@ -5,7 +5,6 @@ use mathlib.Core.List.{List, [], ◌++◌, append-nil}
 use native.Mathlib.Omega.{arith}
 use lib.ListN.{length, take, drop, length-drop, drop_of_length-le}
 use lib.Seq.{take_all}
-use borrow.Author.Rules.{rules}
 use Rattle.numbers.specs.Words.{words_of}
 use Rattle.model.specs.Filling.{on_base, fill_by}
 use Rattle.model.specs.Axes.{axis_of, walk_on}
@@ -65,13 +64,13 @@ room : (c : After-step_from-row) → 4 * c.args.n ≤ length c.args.list.now
 room c = omega (arith, (begun c).room)
 
 pub overflow_mul-from : goal.overflow_mul-from
-overflow_mul-from c = omega (arith, room (goal.at.overflow_mul-from c).After-step_from-row, c.good.1.1.1.1.0.0)
+overflow_mul-from c = omega (arith, room (goal.at.overflow_mul-from c).After-step_from-row)
 
 pub slice_bounds-fill_row-count : goal.slice_bounds-fill_row-count
 slice_bounds-fill_row-count c = room (goal.at.slice_bounds-fill_row-count c).After-step_from-row
 
-pub OLD-slice-bounds-fill-row-start : goal.OLD-slice-bounds-fill-row-start
-OLD-slice-bounds-fill-row-start c = room (goal.at.OLD-slice-bounds-fill-row-start c).After-step_from-row
+pub slice_bounds-fill_row-start : goal.slice_bounds-fill_row-start
+slice_bounds-fill_row-start c = room (goal.at.slice_bounds-fill_row-start c).After-step_from-row
 
 pub fill_row-r-requires : goal.fill_row-r-requires
 fill_row-r-requires c =
@@ -79,7 +78,7 @@ fill_row-r-requires c =
     record { placed = (first-placed b, b.planned.first_way); le_quota = (b.least, b.most, low (goal.at.fill_row-r-requires c).After-step_from-row) }
 
 pub returns : goal.returns
-returns c =
+returns c x o st =
     let b = begun (goal.at.returns c).After-step_from-row in
     let v = going-in b x o in
     let e = is (goal.at.returns c).After-step_from-row x o st in
@@ -88,7 +87,7 @@ returns c =
     let l : List ℕ = c.args.list.now in
     let rest : List ℕ = drop (4 * c.args.n) l in
     let k : ℕ = length l - 4 * c.args.n in
-    let part : List ℕ = c.fill_row-r.new.1.1.1.1.1.0 in
+    let part : List ℕ = c.fill_row-r.new.list in
     let all : take k rest ≡ rest = take_all k rest (omega (arith, length-drop (4 * c.args.n) l)) in
     let none : drop k rest ≡ [] = drop_of_length-le rest {i = k} (omega (arith, length-drop (4 * c.args.n) l)) in
     let filled = c.fill_row-r.ensures (sections_of x).first (first-yes x o.accepted) o.first.share in

@@ -4,8 +4,6 @@ use mathlib.Core.Path.{◌≡◌, refl, sym}
 use mathlib.Core.Bool.{Bool, true, false, not}
 use native.Mathlib.Nat.{le_trans, mul-le-mul_right, div-mul-le_self}
 use native.Mathlib.Omega.{arith}
-use borrow.Author.Rules.{rules}
-use mathlib.Core.Path.{ap}
 use Rattle.grid_fill.proofs.turns.rows_again.Goals as goal
 
 -- r whole parts of e fit into n
@@ -26,9 +24,8 @@ pub returns-then-w-eq0-2 : goal.returns-then-w-eq0-2
 returns-then-w-eq0-2 c = (omega arith, omega arith, λ h. absurd (omega arith))
 
 pub returns : goal.returns
-returns c =
-    (
-      omega (arith, c.least-by_room.ensures.0, c.least.ensures.0),
-      parts _ c.args.w.entries c.args.room (omega (arith, c.least-by_room.ensures.1, c.least.ensures.0)),
-      λ h. (c.if-not-enters.false, omega (arith, c.if-w-eq0.false), omega (arith, c.requires, parts _ c.args.w.tries _ c.least.ensures.1)),
-    )
+returns c = (
+  omega (arith, c.least-by_room.ensures.0, c.least.ensures.0),
+  parts _ c.args.w.entries c.args.room (omega (arith, c.least-by_room.ensures.1, c.least.ensures.0)),
+  λ h. (c.if-not-enters.false, omega (arith, c.if-w-eq0.false), omega (arith, c.requires, parts _ c.args.w.tries _ c.least.ensures.1)),
+)

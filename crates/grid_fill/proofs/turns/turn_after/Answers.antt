@@ -1,5 +1,4 @@
 -- `turn_after` meets its contract.
-use borrow.Author.Rules.{rules}
 use borrow.Author.Tests.{lt-ltb, le-ltb, eq-eqb, ne_eqb}
 use Rattle.grid_fill.proofs.turns.turn_after.Goals as goal
 

@@ -3,7 +3,6 @@ use Prim.Native.Nat.{ℕ}
 use mathlib.Core.Path.{◌≡◌, sym, ap, ◌∙◌, subst}
 use mathlib.Core.Bool.{true}
 use mathlib.Core.List.{List}
-use borrow.Author.Rules.{rules}
 use lib.IntN.{ℤ, pos}
 use mir.Syntax.{w64}
 use mir.Val.{SFits}
@@ -69,7 +68,7 @@ second_is : (c : After-ask_section-asked-2) → c.section_to-second.result ≡ s
 second_is c =
     c.section_to-second.ensures
     ∙ ap (λ (r : ℤ). section_to r (pos 2) c.args.x.second)
-    (to_z-of_z w64 c.args.x.rank (rank-fits (in-rank c).before))
+    (to_z-of_z w64 c.args.x.rank (record { sfits = c.struct_told-1.given.0.1 }))
 
 second-asked : (c : After-ask_section-asked-2) → c.ask_section-asked-2.result ≡ answers.asked_of (sections_with c.args.x c.args.b.now c.args.c.now c.args.d.now).second
 second-asked c =
@@ -79,7 +78,7 @@ pub returns-in_default-asked : goal.returns-in_default-asked
 returns-in_default-asked c =
     let whole = answered c.args.x c.args.b.now c.args.c.now c.args.d.now
     (ap Refused (c.refusal_of-in_default-asked.ensures ∙ ap refusal_in c.in_default-asked.is)
-    ∙ second-refused c.args.x c.args.b.now c.args.c.now c.args.d.now (ranked (in-rank c)) _ (first_by (goal.at.returns-in_default-asked c).In-By) _
+    ∙ second-refused c.args.x c.args.b.now c.args.c.now c.args.d.now (ranked (goal.at.returns-in_default-asked c).Else-not-within) _ (first_by (goal.at.returns-in_default-asked c).In-By) _
     (sym (second-asked (goal.at.returns-in_default-asked c).After-ask_section-asked-2) ∙ c.in_default-asked.is)) in record { value = whole.0; sound = whole.1 }
 
 -- it passed
@@ -91,7 +90,7 @@ second-by : (c : In-By-asked) → answers.asked_of (sections_with c.args.x c.arg
 second-by c =
     sym ((c.ask_section-asked-2.ensures.value ∙ ap (λ (y : sections.Section). answers.asked_of (section_with y c.args.c.now)) (c.section_to-second.ensures
     ∙ ap (λ (r : ℤ). section_to r (pos 2) c.args.x.second)
-    (to_z-of_z w64 c.args.x.rank (rank-fits (in-rank c).before))))) ∙ c.in-By-asked.is
+    (to_z-of_z w64 c.args.x.rank (record { sfits = c.struct_told-1.given.0.1 }))))) ∙ c.in-By-asked.is
 
 second-bounded : (c : In-By-asked) → Bounded (l c)
 second-bounded c =
@@ -102,7 +101,7 @@ third-is : (c : After-ask_section-asked-3) → c.section_to-third.result ≡ sec
 third-is c =
     c.section_to-third.ensures
     ∙ ap (λ (r : ℤ). section_to r (pos 3) c.args.x.third)
-    (to_z-of_z w64 c.args.x.rank (rank-fits (in-rank (c (c c))).before))
+    (to_z-of_z w64 c.args.x.rank (record { sfits = c.struct_told-1.given.0.1 }))
 
 third-asked : (c : After-ask_section-asked-3) → c.ask_section-asked-3.result ≡ answers.asked_of (sections_with c.args.x c.args.b.now c.args.c.now c.args.d.now).third
 third-asked c =
@@ -112,24 +111,23 @@ pub returns-in_default-asked-2 : goal.returns-in_default-asked-2
 returns-in_default-asked-2 c =
     let whole = answered c.args.x c.args.b.now c.args.c.now c.args.d.now
     (ap Refused (c.refusal_of-in_default-asked-2.ensures ∙ ap refusal_in c.in_default-asked-2.is)
-    ∙ third-refused c.args.x c.args.b.now c.args.c.now c.args.d.now (ranked (in-rank c)) _ (first_by (goal.at.returns-in_default-asked-2 c).In-By) _ (second-by (goal.at.returns-in_default-asked-2 c).In-By-asked) _
+    ∙ third-refused c.args.x c.args.b.now c.args.c.now c.args.d.now (ranked (goal.at.returns-in_default-asked-2 c).Else-not-within) _ (first_by (goal.at.returns-in_default-asked-2 c).In-By) _ (second-by (goal.at.returns-in_default-asked-2 c).In-By-asked) _
     (sym (third-asked (goal.at.returns-in_default-asked-2 c).After-ask_section-asked-3) ∙ c.in_default-asked-2.is)) in record { value = whole.0; sound = whole.1 }
 
 line-bounded : {w : Strided} {d : Dealing} {y : Line} → y ≡ record { section = w; dealing = d } → Bounded w → Bounded y.section
 line-bounded e b = subst (λ (z : Line). Bounded z.section) (sym e) b
 
 pub limited-requires : goal.limited-requires
-limited-requires c =
-    (
-      line-bounded c.line_of.ensures (first-bounded (first-passed c)),
-      line-bounded c.line_of-2.ensures (second-bounded (goal.at.limited-requires c).In-By-asked),
-      line-bounded c.line_of-3.ensures (subst answers.Sound c.in-By-asked-2.is c.ask_section-asked-3.ensures.sound),
-    )
+limited-requires c = (
+  line-bounded c.line_of.ensures (first-bounded (goal.at.limited-requires c).In-By),
+  line-bounded c.line_of-2.ensures (second-bounded (goal.at.limited-requires c).In-By-asked),
+  line-bounded c.line_of-3.ensures (subst answers.Sound c.in-By-asked-2.is c.ask_section-asked-3.ensures.sound),
+)
 
 pub returns : goal.returns
 returns c =
     let second = c.line_of-2.ensures ∙ ap (line_on (l (goal.at.returns c).In-By-asked)) (second_is (goal.at.returns c).After-ask_section-asked-2) in
     let third = c.line_of-3.ensures ∙ ap (line_on c.in-By-asked-2.m) (third-is (goal.at.returns c).After-ask_section-asked-3) in let whole = answered c.args.x c.args.b.now c.args.c.now c.args.d.now
     (c.limited.ensures ∙ (λ i. limited_by (c.line_of.ensures i) (second i) (third i))
-    ∙ all-passed c.args.x c.args.b.now c.args.c.now c.args.d.now (ranked (in-rank c)) _ (first_by (goal.at.returns c).In-By) _ (second-by (goal.at.returns c).In-By-asked) _
+    ∙ all-passed c.args.x c.args.b.now c.args.c.now c.args.d.now (ranked (goal.at.returns c).Else-not-within) _ (first_by (goal.at.returns c).In-By) _ (second-by (goal.at.returns c).In-By-asked) _
     (sym (third-asked (goal.at.returns c).After-ask_section-asked-3) ∙ c.in-By-asked-2.is)) in record { value = whole.0; sound = whole.1 }

@@ -1,8 +1,5 @@
 -- `limited` meets its contract: the bounds of accepted sections are those that the products ask for.
 use mathlib.Core.Path.{sym, ◌∙◌}
-use borrow.Author.Tests.{not-true, not-false}
-use mathlib.Core.Bool.{not}
-use mathlib.Core.Path.{ap}
 use Rattle.grid_section.proofs.lines.limited.Goals as goal
 
 pub products_fit-requires : goal.products_fit-requires

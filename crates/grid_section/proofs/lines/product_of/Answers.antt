@@ -1,6 +1,5 @@
 -- `product_of` meets its contract.
 use native.Mathlib.Omega.{arith}
-use borrow.Author.Rules.{rules}
 use Rattle.numbers.proofs.Division.{product_le}
 use Rattle.grid_section.proofs.lines.product_of.Goals as goal
 

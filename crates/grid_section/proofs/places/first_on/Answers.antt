@@ -1,11 +1,9 @@
--- `first_on_lem` meets its contract: a place in each dimension, or none in one.
+-- `first_on` meets its contract: a place in each dimension, or none in one.
 use Prim.Native.Nat.{ℕ, ◌+◌, ◌*◌, ◌≤◌, ◌<◌}
 use mathlib.Core.Path.{◌≡◌, refl, sym, ap, ◌∙◌}
 use mathlib.Core.Bool.{Bool, true, false, cond, ◌&&◌}
-use mathlib.Core.Logic.{⊎_elim}
 use native.Mathlib.Omega.{arith}
-use borrow.Author.Rules.{rules}
-use borrow.Author.Tests.{ltb-true, lt-ltb, le-ltb}
+use borrow.Author.Tests.{lt-ltb, le-ltb}
 use lib.Dec.{ltb}
 use Rattle.numbers.proofs.Division.{product_le}
 use Rattle.model.specs.Axes.{paired}
@@ -13,7 +11,7 @@ use Rattle.model.proofs.PairLaws.{pair_lt}
 use Rattle.grid_section.specs.declared.places.Shares.{Shares}
 use Rattle.grid_section.specs.Shares.{positions_in, first_by, AllFitted}
 use Rattle.grid_section.proofs.places.first_on.Goals as goal
-use Rattle.grid_section.proofs.places.first_on.Goals.{After-first_of-v, Then-v-o}
+use Rattle.grid_section.proofs.places.first_on.Goals.{After-first_of-v, else-t-m-via-then-t-m+then-u-n+else-v-o, else-t-m-via-then-t-m+else-u-n, else-t-m-via-else-t-m}
 
 -- the three first places that were found
 abbrev s : (c : After-first_of-v) → Shares
@@ -62,51 +60,50 @@ not_third true = refl
 not_third false = refl
 
 -- all three tests hold
-fitted : (c : Then-v-o) → AllFitted ((c.args.s))
-fitted c =
-    c.requires
+module _ (s : Shares) (t u v : ℕ) (fit : AllFitted s)
+    (h : t < s.first.section.count) (k : u < s.second.section.count) (l : v < s.third.section.count) where
+  rest_lt : u + s.second.section.count * v < s.second.section.count * s.third.section.count
+  rest_lt = pair_lt s.second.section.count s.third.section.count u v k l
 
-first-lt : (c : Then-v-o) → (c.first_of-t.result.0) < ((c.args.s).first.section.count)
-first-lt c =
-    c.else-t-m.true
+  rest-low : s.second.section.count * s.third.section.count ≤ 4611686014132420609
+  rest-low = product_le 2147483647 2147483647 fit.second.bounded.count-high fit.third.bounded.count-high
 
-second_lt : (c : Then-v-o) → (c.first_of-u.result.0) < ((c.args.s).second.section.count)
-second_lt c =
-    ltb-true _ _ c.if-u-n.true
+  other-low : u + s.second.section.count * v ≤ 4611686014132420609
+  other-low = omega (arith, rest_lt, rest-low)
 
-third-lt : (c : Then-v-o) → (c.first_of-v.result.0) < ((c.args.s).third.section.count)
-third-lt c =
-    ltb-true _ _ c.if-v-o.true
-
-other-low : (c : Then-v-o) → (c.first_of-u.result.0) + ((c.args.s).second.section.count) * (c.first_of-v.result.0) ≤ 4611686014132420609
-other-low c =
-    omega (arith, rest_lt c (fitted c) (first-lt c) (second_lt c) (third-lt c), rest-low c (fitted c) (first-lt c) (second_lt c) (third-lt c))
-
-all-low : (c : Then-v-o) → (c.first_of-t.result.0) + ((c.args.s).first.section.count) * ((c.first_of-u.result.0) + ((c.args.s).second.section.count) * (c.first_of-v.result.0)) < 2147483647
-all-low c =
-    place-low c (fitted c) (first-lt c) (second_lt c) (third-lt c)
+  -- the number of the place is in range
+  place-low : t + s.first.section.count * (u + s.second.section.count * v) < 2147483647
+  place-low =
+      omega (
+        arith,
+        pair_lt s.first.section.count (s.second.section.count * s.third.section.count) t (u + s.second.section.count * v) h rest_lt,
+        fit.positions,
+      )
 
 pub overflow_mul-result : goal.overflow_mul-result
-overflow_mul-result c = omega (arith, other-low (goal.at.overflow_mul-result c).Then-v-o)
+overflow_mul-result c = omega (arith, other-low c.args.s c.first_of-t.result.0 c.first_of-u.result.0 c.first_of-v.result.0 c.requires c.if-t-m.true c.if-u-n.true c.if-v-o.true)
 
 pub overflow_add-result : goal.overflow_add-result
-overflow_add-result c = omega (arith, other-low (goal.at.overflow_add-result c).Then-v-o)
+overflow_add-result c = omega (arith, other-low c.args.s c.first_of-t.result.0 c.first_of-u.result.0 c.first_of-v.result.0 c.requires c.if-t-m.true c.if-u-n.true c.if-v-o.true)
 
 pub overflow_mul-result-then-v-o : goal.overflow_mul-result-then-v-o
-overflow_mul-result-then-v-o c = omega (arith, all-low (goal.at.overflow_mul-result-then-v-o c).Then-v-o)
+overflow_mul-result-then-v-o c = omega (arith, place-low c.args.s c.first_of-t.result.0 c.first_of-u.result.0 c.first_of-v.result.0 c.requires c.if-t-m.true c.if-u-n.true c.if-v-o.true)
 
 pub overflow_add-result-then-v-o : goal.overflow_add-result-then-v-o
-overflow_add-result-then-v-o c = omega (arith, all-low (goal.at.overflow_add-result-then-v-o c).Then-v-o)
+overflow_add-result-then-v-o c = omega (arith, place-low c.args.s c.first_of-t.result.0 c.first_of-u.result.0 c.first_of-v.result.0 c.requires c.if-t-m.true c.if-u-n.true c.if-v-o.true)
 
 pub returns-then-v-o : goal.returns-then-v-o
 returns-then-v-o c =
-    let all : passes (goal.at.returns-then-v-o c).After-first_of-v ≡ true = rw (lt-ltb _ _ (first-lt (goal.at.returns-then-v-o c).Then-v-o), lt-ltb _ _ (second_lt (goal.at.returns-then-v-o c).Then-v-o), lt-ltb _ _ (third-lt (goal.at.returns-then-v-o c).Then-v-o)) in
+    let all : passes (goal.at.returns-then-v-o c).After-first_of-v ≡ true = rw (lt-ltb _ _ c.if-t-m.true, lt-ltb _ _ c.if-u-n.true, lt-ltb _ _ c.if-v-o.true) in
     sym (ap (found (goal.at.returns-then-v-o c).After-first_of-v) all) ∙ is-first (goal.at.returns-then-v-o c).After-first_of-v
 
 pub returns : goal.returns
 returns c =
-    let none : passes (goal.at.returns c).After-first_of-v ≡ false =
-    ⊎_elim (λ w. rw w.4.left (not_third (ltb (t (goal.at.returns c).After-first_of-v) (m (goal.at.returns c).After-first_of-v) && ltb (u (goal.at.returns c).After-first_of-v) (n (goal.at.returns c).After-first_of-v))))
-    (⊎_elim (λ w. rw (lt-ltb _ _ w.0.taken, w.2.left)) (λ w. rw (le-ltb _ _ w.left)))
-    c.else-t-m.branch in
-    c.product_of.ensures ∙ sym (ap (found (goal.at.returns c).After-first_of-v) none) ∙ is-first (goal.at.returns c).After-first_of-v
+    let at = (goal.at.returns c).After-first_of-v in
+    let none : passes at ≡ false =
+    elim c.else-t-m.branch [
+      | else-t-m-via-then-t-m+then-u-n+else-v-o w ↦ rw (le-ltb _ _ w.if-v-o.false) (not_third (ltb (t at) (m at) && ltb (u at) (n at)))
+      | else-t-m-via-then-t-m+else-u-n w ↦ rw (lt-ltb _ _ w.if-t-m.true, le-ltb _ _ w.if-u-n.false)
+      | else-t-m-via-else-t-m w ↦ rw (le-ltb _ _ w.if-t-m.false)
+    ] in
+    c.product_of.ensures ∙ sym (ap (found at) none) ∙ is-first at

@@ -2,10 +2,7 @@
 use Prim.Native.Nat.{ℕ, ◌/◌, ◌%◌, ◌*◌, ◌<◌}
 use mathlib.Core.Path.{sym, ◌∙◌}
 use native.Mathlib.Omega.{arith}
-use borrow.Author.Tests.{not-true, not-false}
 use Rattle.model.proofs.PairLaws.{first-lt, second_lt}
-use mathlib.Core.Bool.{not}
-use mathlib.Core.Path.{ap}
 use Rattle.grid_section.proofs.places.owns_on.Goals as goal
 use Rattle.grid_section.proofs.places.owns_on.Goals.{Start}
 

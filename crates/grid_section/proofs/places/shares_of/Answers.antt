@@ -1,6 +1,5 @@
 -- `shares_of` meets its contract: each coordinate is a processor of its dimension.
 use native.Mathlib.Nat.{mod-lt}
-use borrow.Author.Rules.{rules}
 use Rattle.model.proofs.PairLaws.{second_lt}
 use Rattle.grid_section.proofs.places.shares_of.Goals as goal
 

@@ -1,7 +1,6 @@
 -- `report_on` meets its contract.
 use mathlib.Core.Path.{sym, ap, ◌∙◌, subst}
 use mathlib.Core.List.{[]}
-use borrow.Author.Rules.{rules}
 use Rattle.model.specs.Mappings.{dealing_with}
 use Rattle.model.specs.Calls.{steps_report}
 use Rattle.section.specs.Answers.{Short}

@@ -1,7 +1,6 @@
 -- `steps_on` meets its contract.
 use Prim.Native.Nat.{ℕ}
 use mathlib.Core.List.{List, [], ◌∷◌, ◌++◌}
-use borrow.Author.Rules.{rules}
 use Rattle.model.specs.Calls.{ToldApart}
 use Rattle.section.specs.declared.report.SectionSteps.{SectionSteps}
 use Rattle.section.specs.Answers.{steps_refusals}

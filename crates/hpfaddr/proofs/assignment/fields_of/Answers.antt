@@ -1,7 +1,6 @@
 -- `fields_of` meets its contract: each case has its fields, and its number fits the field.
 use mathlib.Core.Path.{sym, ap, subst}
 use native.Mathlib.Omega.{arith}
-use borrow.Author.Rules.{rules}
 use Rattle.transfer.specs.Answers.{transferred_as}
 use Rattle.hpfaddr.specs.Sizes.{TransferredFits}
 use Rattle.hpfaddr.proofs.assignment.fields_of.Goals as goal

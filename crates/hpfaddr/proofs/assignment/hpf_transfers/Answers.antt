@@ -1,7 +1,6 @@
 -- `hpf_transfers` meets its contract: what `transferred_of` promises, of the parameters.
 use mathlib.Core.Path.{ap, ◌∙◌}
 use mathlib.Core.List.{[]}
-use borrow.Author.Rules.{rules}
 use Rattle.model.specs.Transfers.{transfers, lists_after}
 use Rattle.transfer.specs.Answers.{lists_of}
 use Rattle.hpfaddr.proofs.ParameterLaws.{mapping-read, section-read, cyclic-read, call-read}

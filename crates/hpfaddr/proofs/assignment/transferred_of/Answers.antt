@@ -1,10 +1,9 @@
 -- `transferred_of` meets its contract: what `transfers` answers and leaves is of the parameters, and its numbers fit the fields.
 use mathlib.Core.Path.{◌≡◌, refl, ap, ◌∙◌}
-use borrow.Author.Rules.{rules}
 use mir.Syntax.{w64}
 use Rattle.numbers.proofs.Signed.{back}
 use Rattle.model.specs.Mappings.{section_with}
-use Rattle.model.specs.Transfers.{TransferCall, transfers, lists_after}
+use Rattle.model.specs.Transfers.{transfers, lists_after}
 use Rattle.transfer.specs.Answers.{call_of, lists_of, transferred_as}
 use Rattle.hpfaddr.specs.Sizes.{TransferredFits}
 use Rattle.hpfaddr.proofs.AnswerSizes.{with_size, transfers-small}

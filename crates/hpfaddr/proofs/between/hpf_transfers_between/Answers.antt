@@ -1,6 +1,5 @@
 -- `hpf_transfers_between` meets its contract: what `transferred_of` promises, of the parameters.
 use mathlib.Core.Path.{ap, ◌∙◌}
-use borrow.Author.Rules.{rules}
 use Rattle.model.specs.Transfers.{transfers, lists_after}
 use Rattle.transfer.specs.Answers.{lists_of}
 use Rattle.hpfaddr.proofs.ParameterLaws.{mapping-read, section-read, number_read, call-read}

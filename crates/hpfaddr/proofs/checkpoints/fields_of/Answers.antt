@@ -3,7 +3,6 @@ use mathlib.Core.Path.{sym, ap, subst}
 use native.Mathlib.Omega.{arith}
 use Rattle.storage.specs.Answers.{copied_as}
 use Rattle.hpfaddr.specs.Sizes.{CopiedFits}
-use borrow.Author.Rules.{rules}
 use Rattle.hpfaddr.proofs.checkpoints.fields_of.Goals as goal
 
 pub overflow_cast-result : goal.overflow_cast-result

@@ -1,7 +1,6 @@
 -- `hpf_checkpoint` meets its contract: what `saved_of` promises, of the parameters.
 use mathlib.Core.Path.{ap, ◌∙◌}
 use mathlib.Core.List.{[]}
-use borrow.Author.Rules.{rules}
 use Rattle.model.specs.Mappings.{Mapping}
 use Rattle.model.specs.Checkpoints.{copy_of, copying, saved}
 use Rattle.hpfaddr.proofs.ParameterLaws.{mapping-read, cyclic-read}

@@ -1,7 +1,6 @@
 -- `hpf_restore` meets its contract: what `restored_of` promises, of the parameters.
 use mathlib.Core.Path.{ap, ◌∙◌}
 use mathlib.Core.List.{[]}
-use borrow.Author.Rules.{rules}
 use Rattle.model.specs.Mappings.{Mapping}
 use Rattle.model.specs.Checkpoints.{copy_of, copying, loaded}
 use Rattle.hpfaddr.proofs.ParameterLaws.{mapping-read, cyclic-read}

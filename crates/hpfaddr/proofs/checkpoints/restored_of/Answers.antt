@@ -1,6 +1,5 @@
 -- `restored_of` meets its contract: what `load` answers and writes, and its numbers fit the fields.
 use mathlib.Core.Path.{◌∙◌}
-use borrow.Author.Rules.{rules}
 use Rattle.hpfaddr.specs.Sizes.{CopiedFits}
 use Rattle.hpfaddr.proofs.AnswerSizes.{with_size, copying-small}
 use Rattle.hpfaddr.proofs.checkpoints.restored_of.Goals as goal

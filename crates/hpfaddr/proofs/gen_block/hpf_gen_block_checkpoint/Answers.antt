@@ -1,6 +1,5 @@
 -- `hpf_gen_block_checkpoint` meets its contract: what `saved_of` promises, of the parameters.
 use mathlib.Core.Path.{refl, ap, ◌∙◌}
-use borrow.Author.Rules.{rules}
 use Rattle.model.specs.Mappings.{Mapping}
 use Rattle.model.specs.Checkpoints.{copy_of, copying, saved}
 use Rattle.hpfaddr.proofs.ParameterLaws.{mapping-read}

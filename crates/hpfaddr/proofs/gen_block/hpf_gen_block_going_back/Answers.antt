@@ -1,6 +1,5 @@
 -- `hpf_gen_block_going_back` meets its contract: what `found_of` promises, of the parameters.
 use mathlib.Core.Path.{refl, ◌∙◌}
-use borrow.Author.Rules.{rules}
 use mir.Syntax.{w64}
 use mir.ValLaws.{to_z-of_z}
 use Rattle.model.specs.Calls.{going_back}

@@ -1,6 +1,5 @@
 -- `hpf_gen_block_local_count` meets its contract: what `counted_of` promises, of the parameters.
 use mathlib.Core.Path.{refl, ◌∙◌}
-use borrow.Author.Rules.{rules}
 use mir.Syntax.{w64}
 use mir.ValLaws.{to_z-of_z}
 use Rattle.model.specs.Calls.{local_count}

@@ -1,6 +1,5 @@
 -- `hpf_gen_block_restore` meets its contract: what `restored_of` promises, of the parameters.
 use mathlib.Core.Path.{refl, ap, ◌∙◌}
-use borrow.Author.Rules.{rules}
 use Rattle.model.specs.Mappings.{Mapping}
 use Rattle.model.specs.Checkpoints.{copy_of, copying, loaded}
 use Rattle.hpfaddr.proofs.ParameterLaws.{mapping-read}

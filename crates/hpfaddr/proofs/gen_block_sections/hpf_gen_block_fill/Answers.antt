@@ -1,6 +1,5 @@
 -- `hpf_gen_block_fill` meets its contract: what `filled_of` promises, of the parameters.
 use mathlib.Core.Path.{refl, ap, ◌∙◌}
-use borrow.Author.Rules.{rules}
 use Rattle.model.specs.ByteFills.{ByteFill, in_words, bytes_after}
 use Rattle.model.specs.Calls.{fill}
 use Rattle.fill.specs.Answers.{report_of}

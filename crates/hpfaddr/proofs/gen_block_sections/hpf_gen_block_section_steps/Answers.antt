@@ -1,6 +1,5 @@
 -- `hpf_gen_block_section_steps` meets its contract: what `steps_of` promises, of the parameters.
 use mathlib.Core.Path.{refl, ap, ◌∙◌}
-use borrow.Author.Rules.{rules}
 use Rattle.model.specs.Calls.{section_steps}
 use Rattle.hpfaddr.proofs.ParameterLaws.{mapping-read, section-read}
 use Rattle.hpfaddr.proofs.gen_block_sections.hpf_gen_block_section_steps.Goals as goal

@@ -1,6 +1,5 @@
 -- `dimension_section` meets its contract: each number of the triplet is read back as it was given.
 use mathlib.Core.Path.{◌∙◌}
-use borrow.Author.Rules.{rules}
 use mir.Syntax.{w64}
 use mir.ValLaws.{to_z-of_z}
 use Rattle.model.specs.Sections.{triplet_of}

@@ -1,6 +1,5 @@
 -- `fields_of_grid` meets its contract: each case has its fields, and each dimension its own.
 use mathlib.Core.Path.{sym, ap, ◌∙◌}
-use borrow.Author.Rules.{rules}
 use Rattle.grid_section.specs.Answers.{steps_as}
 use Rattle.hpfaddr.proofs.grid_sections.fields_of_grid.Goals as goal
 

@@ -1,5 +1,4 @@
 -- `grid_section_of` meets its contract: the section of each dimension.
-use borrow.Author.Rules.{rules}
 use mir.Syntax.{w64}
 use mir.ValLaws.{to_z-of_z}
 use Rattle.hpfaddr.proofs.grid_sections.grid_section_of.Goals as goal

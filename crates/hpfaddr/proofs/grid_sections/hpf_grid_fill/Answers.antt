@@ -1,7 +1,6 @@
 -- `hpf_grid_fill` meets its contract: the numbers that `fill_into_bytes` reports fit their fields, and the bytes are those that it
 -- left.
 use mathlib.Core.Path.{◌≡◌, ap, ◌∙◌}
-use borrow.Author.Rules.{rules}
 use lib.IntN.{ℤ}
 use mir.Syntax.{w64}
 use mir.ValLaws.{to_z-of_z}

@@ -1,6 +1,5 @@
 -- `hpf_grid_first_place` meets its contract: what `first_place` answers of the section, and that it fits the fields.
 use mathlib.Core.Path.{◌≡◌, ◌∙◌}
-use borrow.Author.Rules.{rules}
 use mir.Syntax.{w64}
 use mir.ValLaws.{to_z-of_z}
 use Rattle.model.specs.Grids.{grid_section_with}

@@ -1,6 +1,5 @@
 -- `hpf_grid_section_steps` meets its contract: what `section_steps` answers of the section, and that it fits the fields.
 use mathlib.Core.Path.{◌∙◌}
-use borrow.Author.Rules.{rules}
 use Rattle.model.specs.Grids.{grid_section_with}
 use Rattle.model.specs.GridCalls.{grid_steps}
 use Rattle.hpfaddr.specs.Sizes.{GridStepsFit}

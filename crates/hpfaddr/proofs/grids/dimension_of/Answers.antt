@@ -1,6 +1,5 @@
 -- `dimension_of` meets its contract: each number is read back as it was given.
 use mathlib.Core.Path.{◌∙◌}
-use borrow.Author.Rules.{rules}
 use mir.Syntax.{w64}
 use mir.ValLaws.{to_z-of_z}
 use Rattle.hpfaddr.specs.Fields.{numbers_of, dealing_from}

@@ -1,5 +1,4 @@
 -- `grid_of` meets its contract: the mapping of each dimension.
-use borrow.Author.Rules.{rules}
 use mir.Syntax.{w64}
 use mir.ValLaws.{to_z-of_z}
 use Rattle.hpfaddr.proofs.grids.grid_of.Goals as goal

@@ -1,6 +1,5 @@
 -- `hpf_grid_going_back` meets its contract: what `going_back` answers of the grid, and that it fits the fields.
 use mathlib.Core.Path.{◌≡◌, ◌∙◌}
-use borrow.Author.Rules.{rules}
 use mir.Syntax.{w64}
 use mir.ValLaws.{to_z-of_z}
 use Rattle.model.specs.Grids.{grid_with}

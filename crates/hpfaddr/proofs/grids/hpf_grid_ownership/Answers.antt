@@ -1,6 +1,5 @@
 -- `hpf_grid_ownership` meets its contract: what `ownership` answers of the grid, and that it fits the fields.
 use mathlib.Core.Path.{◌≡◌, ◌∙◌}
-use borrow.Author.Rules.{rules}
 use mir.Syntax.{w64}
 use mir.ValLaws.{to_z-of_z}
 use Rattle.model.specs.Grids.{grid_with}

@@ -1,7 +1,6 @@
 -- `fields_of_place` meets its contract: each case has its fields, and its numbers fit them.
 use mathlib.Core.Path.{sym, ap, subst}
 use native.Mathlib.Omega.{arith}
-use borrow.Author.Rules.{rules}
 use Rattle.section.specs.declared.place.Placed.TheVariants.{At}
 use Rattle.section.specs.Answers.{placed_as}
 use Rattle.hpfaddr.specs.Sizes.{PlacedFits}

@@ -1,6 +1,5 @@
 -- `fields_of_steps` meets its contract: each case has its fields.
 use mathlib.Core.Path.{sym, ap, ◌∙◌}
-use borrow.Author.Rules.{rules}
 use Rattle.section.specs.Answers.{steps_as}
 use Rattle.hpfaddr.proofs.sections.fields_of_steps.Goals as goal
 

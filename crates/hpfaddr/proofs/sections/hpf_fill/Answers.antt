@@ -1,7 +1,6 @@
 -- `hpf_fill` meets its contract: what `filled_of` promises, of the parameters.
 use mathlib.Core.Path.{ap, ◌∙◌}
 use mathlib.Core.List.{[]}
-use borrow.Author.Rules.{rules}
 use Rattle.model.specs.ByteFills.{ByteFill, in_words, bytes_after}
 use Rattle.model.specs.Calls.{fill}
 use Rattle.fill.specs.Answers.{report_of}

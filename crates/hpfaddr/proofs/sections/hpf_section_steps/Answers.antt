@@ -1,7 +1,6 @@
 -- `hpf_section_steps` meets its contract: what `steps_of` promises, of the parameters.
 use mathlib.Core.Path.{ap, ◌∙◌}
 use mathlib.Core.List.{[]}
-use borrow.Author.Rules.{rules}
 use Rattle.model.specs.Calls.{section_steps}
 use Rattle.hpfaddr.proofs.ParameterLaws.{mapping-read, section-read, cyclic-read}
 use Rattle.hpfaddr.proofs.sections.hpf_section_steps.Goals as goal

@@ -1,9 +1,8 @@
 -- `placed_of` meets its contract: the place that `first_place` answers fits its field.
 use mathlib.Core.Path.{◌≡◌, ◌∙◌}
-use borrow.Author.Rules.{rules}
 use mir.Syntax.{w64}
 use mir.ValLaws.{to_z-of_z}
-use Rattle.model.specs.Mappings.{Section, section_with}
+use Rattle.model.specs.Mappings.{section_with}
 use Rattle.model.specs.Calls.{first_place_at}
 use Rattle.section.specs.Answers.{placed_as}
 use Rattle.hpfaddr.specs.Sizes.{PlacedFits}

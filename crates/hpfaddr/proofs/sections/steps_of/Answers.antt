@@ -1,6 +1,5 @@
 -- `steps_of` meets its contract: the numbers that `section_steps` answers fit the fields.
 use mathlib.Core.Path.{◌∙◌}
-use borrow.Author.Rules.{rules}
 use Rattle.hpfaddr.specs.Sizes.{StepsFit}
 use Rattle.hpfaddr.proofs.AnswerSizes.{with_size, section-steps-small}
 use Rattle.hpfaddr.proofs.sections.steps_of.Goals as goal

@@ -1,4 +1,4 @@
--- `cells_fit_lem` meets its contract: each return rewrites by the answers on the way to it.
+-- `cells_fit` meets its contract: each return rewrites by the answers on the way to it.
 use mathlib.Core.Path.{◌≡◌, sym, ap, ◌∙◌}
 use mathlib.Core.Bool.{true, false}
 use lib.IntN.{ℤ, pos, ◌+ℤ◌, ◌-ℤ◌, ◌*ℤ◌}

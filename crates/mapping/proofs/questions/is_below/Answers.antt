@@ -1,4 +1,4 @@
--- `is_below_lem` meets its contract.
+-- `is_below` meets its contract.
 use mir.Syntax.{w64}
 use mir.ValLaws.{to_z-of_z}
 use mir.Facts.{Fits-nat_abs}

@@ -1,15 +1,8 @@
 -- `fill_on` meets its contract.
-use mathlib.Core.Path.{sym}
-use native.Mathlib.Omega.{arith}
-use borrow.Author.Rules.{rules}
-use lib.Seq.{length-take-le}
 use Rattle.print.specs.Ahead.{listed}
 use Rattle.print.proofs.ListedLaws.{in_blocks}
 use Rattle.print.proofs.WentLaws.{starts, entries-le, went}
 use Rattle.print.proofs.fills.fill_on.Goals as goal
-
-pub slice_bounds-fill_from-end-2 : goal.slice_bounds-fill_from-end-2
-slice_bounds-fill_from-end-2 c = sym (length-take-le c.room_for-room.result c.args.list.now (omega (arith, c.room_for-room.ensures)))
 
 pub fill_from-r-requires : goal.fill_from-r-requires
 fill_from-r-requires c = starts c.args.x c.args.q c.requires.0 c.requires.1
@@ -24,4 +17,4 @@ pub returns : goal.returns
 returns c =
     let x = listed c.args.x in
     went x c.requires.0.fair.accepted c.args.q c.requires.1 c.args.list.now c.room_for-room.result c.room_for-room.ensures
-    (c.fill_from-r.ensures x c.requires.0.fair.accepted (in_blocks c.args.x c.requires.0.fair c.args.q)) c.fill_from-r.auto.1.0
+    (c.fill_from-r.ensures x c.requires.0.fair.accepted (in_blocks c.args.x c.requires.0.fair c.args.q)) c.fill_from-r.auto.list

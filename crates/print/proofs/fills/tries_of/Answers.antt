@@ -1,24 +1,9 @@
 -- `tries_of` meets its contract. The tries paid, and those of what is left, are those of the whole list.
-use Prim.Native.Nat.{◌+◌}
-use mathlib.Core.Path.{◌≡◌, refl, ◌∙◌}
-use mathlib.Core.List.{map}
+use mathlib.Core.Path.{◌∙◌}
 use native.Mathlib.Omega.{arith}
-use lib.ListN.{length}
-use Rattle.numbers.specs.Search.{sum}
-use Rattle.model.specs.Sections.{places}
-use Rattle.model.specs.Steps.{cost}
-use Rattle.print.specs.Ahead.{listed, rest_of, StandsIn}
-use Rattle.print.proofs.WentLaws.{fewer-left, paid-so-far, all_paid, tries-few, none-paid}
+use Rattle.print.specs.Ahead.{listed}
+use Rattle.print.proofs.WentLaws.{fewer-left, paid-so-far, all_paid, tries-few}
 use Rattle.print.proofs.fills.tries_of.Goals as goal
-
-pub whole-rest-requires : goal.whole-rest-requires
-whole-rest-requires c = c.requires.0
-
-pub loop-rest-init : goal.loop-rest-init
-loop-rest-init c = (refl, c.whole-rest.ensures.1, none-paid _ _ c.whole-rest.ensures.0)
-
-pub fill_on-g-requires : goal.fill_on-g-requires
-fill_on-g-requires c = (c.requires.0, c.loop-rest.invariant.1)
 
 pub overflow_add-tries : goal.overflow_add-tries
 overflow_add-tries c =
@@ -35,15 +20,11 @@ loop-rest-smaller c =
     (omega (arith, c.loop-rest.invariant.0, c.requires.1))
 
 pub loop-rest-preserved : goal.loop-rest-preserved
-loop-rest-preserved c =
-    (
-      c.fill_on-g.ensures.same ∙ c.loop-rest.invariant.0,
-      c.fill_on-g.ensures.stands,
-      paid-so-far (listed c.args.x) c.args.q c.fill_on-g.ensures c.loop-rest.tries _ c.loop-rest.invariant.2,
-    )
-
-pub shape_of-list : goal.shape_of-list
-shape_of-list c = c.loop-rest.invariant.0
+loop-rest-preserved c = (
+  c.fill_on-g.ensures.same ∙ c.loop-rest.invariant.0,
+  c.fill_on-g.ensures.stands,
+  paid-so-far (listed c.args.x) c.args.q c.fill_on-g.ensures c.loop-rest.tries _ c.loop-rest.invariant.2,
+)
 
 pub returns : goal.returns
 returns c = all_paid (listed c.args.x) c.args.q c.loop-rest.invariant.1 (omega (arith, c.loop-rest-test.false)) c.loop-rest.tries _ c.loop-rest.invariant.2

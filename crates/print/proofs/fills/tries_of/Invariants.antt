@@ -1,14 +1,12 @@
 -- `tries_of` meets its contract. The tries paid, and those of what is left, are those of the whole list.
 use Prim.Native.Nat.{◌+◌}
-use mathlib.Core.Path.{◌≡◌, refl, ◌∙◌}
+use mathlib.Core.Path.{◌≡◌}
 use mathlib.Core.List.{map}
-use native.Mathlib.Omega.{arith}
 use lib.ListN.{length}
 use Rattle.numbers.specs.Search.{sum}
 use Rattle.model.specs.Sections.{places}
 use Rattle.model.specs.Steps.{cost}
 use Rattle.print.specs.Ahead.{listed, rest_of, StandsIn}
-use Rattle.print.proofs.WentLaws.{fewer-left, paid-so-far, all_paid, tries-few, none-paid}
 use Rattle.print.proofs.fills.tries_of.Given as goal
 
 abbrev pub invariant-loop-rest : goal.invariant-loop-rest

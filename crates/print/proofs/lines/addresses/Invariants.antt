@@ -1,12 +1,7 @@
 -- `addresses` meets its contract. The text of the addresses passed stands at the front.
-use Prim.Native.Nat.{◌*◌, ◌-◌, ◌^◌, ◌≤◌, ◌<◌}
-use mathlib.Core.Path.{◌≡◌}
-use native.Mathlib.Omega.{arith}
-use borrow.Author.Rules.{rules}
-use lib.ListN.{length, get_or, take}
+use Prim.Native.Nat.{◌*◌, ◌-◌, ◌≤◌}
+use lib.ListN.{take}
 use Rattle.print.specs.Texts.{next_numbers, Puts}
-use Rattle.print.proofs.PutLaws.{put-length}
-use Rattle.print.proofs.LineLaws.{no-numbers, one_more, word-digits}
 use Rattle.print.proofs.lines.addresses.Given as goal
 
 abbrev pub invariant-loop-i : goal.invariant-loop-i

@@ -1,32 +1,19 @@
 -- `addresses_part` meets its contract.
 use native.Mathlib.Omega.{arith}
 use native.Mathlib.Nat.{pos_of_ne-zero}
-use borrow.Author.Rules.{rules}
 use Rattle.print.proofs.AheadLaws.{owner-bounded}
 use Rattle.print.proofs.PartLaws.{newline-part-of, addresses-part-of}
 use Rattle.print.proofs.parts.addresses_part.Goals as goal
-
-pub put_byte-requires : goal.put_byte-requires
-put_byte-requires c = omega (arith, c.requires.2.front)
 
 pub overflow_add-q : goal.overflow_add-q
 overflow_add-q c =
     let b = owner-bounded c.args.x c.args.q c.requires.0 in
     omega (arith, b.1, b.0.sized.processors-high)
 
-pub line_or_done-requires : goal.line_or_done-requires
-line_or_done-requires c = c.requires.0.fair
-
 pub returns-then-rest-eq0 : goal.returns-then-rest-eq0
 returns-then-rest-eq0 c =
     newline-part-of c.args.x c.args.q c.requires.0 c.args.rest c.requires.1 c.if-rest-eq0.true c.put_byte.ensures
     (omega (arith, c.requires.2.front)) c.line_or_done.ensures.0 c.line_or_done.ensures.1
-
-pub fill_on-g-requires : goal.fill_on-g-requires
-fill_on-g-requires c = (c.requires.0, c.requires.1)
-
-pub addresses-requires : goal.addresses-requires
-addresses-requires c = (c.fill_on-g.ensures.few, omega (arith, c.fill_on-g.ensures.few, c.fill_on-g.ensures.same, c.requires.2.entries))
 
 pub returns : goal.returns
 returns c =

@@ -1,14 +1,7 @@
 -- `front_part` meets its contract.
 use native.Mathlib.Omega.{arith}
-use borrow.Author.Rules.{rules}
 use Rattle.print.proofs.PartLaws.{front_fits, front-part-of}
 use Rattle.print.proofs.parts.front_part.Goals as goal
-
-pub whole-rest-requires : goal.whole-rest-requires
-whole-rest-requires c = c.requires.0
-
-pub tries_of-tries-requires : goal.tries_of-tries-requires
-tries_of-tries-requires c = (c.requires.0, c.requires.1.some)
 
 pub line_front-requires : goal.line_front-requires
 line_front-requires c =

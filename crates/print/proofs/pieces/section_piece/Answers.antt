@@ -1,5 +1,4 @@
 -- `section_piece` meets its contract.
-use borrow.Author.Rules.{rules}
 use Rattle.print.proofs.PieceLaws.{no-piece, section-piece}
 use Rattle.print.proofs.pieces.section_piece.Goals as goal
 

@@ -1,5 +1,6 @@
 -- `ask_section` meets its contract: the fields of 64 bits are read back as the numbers they are.
 use mathlib.Core.Path.{◌≡◌, sym, ◌∙◌, subst}
+use borrow.Author.Rules.{rules}
 use mir.Syntax.{w64}
 use mir.ValLaws.{to_z-of_z}
 use Rattle.model.specs.Mappings.{Section, section_with}
@@ -26,11 +27,16 @@ returns-in-By c =
     let x = section_with c.args.x c.args.sizes.now in
     let sound = subst mapping.Sound c.in-By.is c.ask_mapping.ensures.sound in
     let lower = bound-read c.in-By.lower sound.1 in
-    let l = to_z-of_z w64 x.triplet.lower (record { sfits = c.struct_told-in-By-2-1.given.0.1 }) in
-    let h = to_z-of_z w64 x.triplet.upper (record { sfits = c.struct_told-in-By-2-1.given.1.0.1 }) in
-    let step = to_z-of_z w64 x.triplet.stride (record { sfits = c.struct_told-in-By-2-1.given.1.1.0.1 }) in let whole = answered x
+    let l = to_z-of_z w64 x.triplet.lower (search rules) in
+    let h = to_z-of_z w64 x.triplet.upper (search rules) in
+    let step = to_z-of_z w64 x.triplet.stride (search rules) in
+    let whole = answered x
     (c.triplet_asked.ensures ∙ (λ i. asked_in c.in-By.l (lower i) (l i) (h i) (step i))
-    ∙ mapping-accepted x _ _ (sym c.ask_mapping.ensures.value ∙ c.in-By.is)) in record { value = whole.0; sound = whole.1 }
+    ∙ mapping-accepted x _ _ (sym c.ask_mapping.ensures.value ∙ c.in-By.is)) in
+    record { value = whole.0; sound = whole.1 }
 
 pub returns-in-Refused : goal.returns-in-Refused
-returns-in-Refused c = let x = section_with c.args.x c.args.sizes.now in let whole = answered x (mapping-refused x _ (sym c.ask_mapping.ensures.value ∙ c.in-Refused.is)) in record { value = whole.0; sound = whole.1 }
+returns-in-Refused c =
+    let x = section_with c.args.x c.args.sizes.now in
+    let whole = answered x (mapping-refused x _ (sym c.ask_mapping.ensures.value ∙ c.in-Refused.is)) in
+    record { value = whole.0; sound = whole.1 }

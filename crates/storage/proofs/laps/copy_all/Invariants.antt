@@ -1,8 +1,6 @@
 -- `copy_all` meets its contract. The invariant: the words below the run's index are copied. The measure: those that are left.
 use Prim.Native.Nat.{◌-◌}
-use native.Mathlib.Omega.{arith}
-use Rattle.storage.proofs.PaceLaws.{paced}
-use Rattle.storage.proofs.LapLaws.{Along, along-start, along-on, along-length, along-end}
+use Rattle.storage.proofs.LapLaws.{Along}
 use Rattle.storage.proofs.laps.copy_all.Given as goal
 
 abbrev pub invariant-loop-r : goal.invariant-loop-r

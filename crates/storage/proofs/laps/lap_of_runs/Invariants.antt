@@ -1,10 +1,6 @@
 -- `lap_of_runs` meets its contract. The invariant: some runs were taken. The measure: the elements that are left.
 use Prim.Native.Nat.{◌-◌}
-use mathlib.Core.Path.{refl}
-use mathlib.Core.Logic.{inl, inr}
-use native.Mathlib.Omega.{arith}
-use Rattle.storage.specs.Copying.{Ready}
-use Rattle.storage.proofs.CopyRuns.{Goes, goes-ready, goes_on, goes_end, goes-row, goes-length}
+use Rattle.storage.proofs.CopyRuns.{Goes}
 use Rattle.storage.proofs.laps.lap_of_runs.Given as goal
 
 abbrev pub invariant-loop-r : goal.invariant-loop-r

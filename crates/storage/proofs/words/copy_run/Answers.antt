@@ -2,7 +2,6 @@
 use Prim.Native.Nat.{ℕ, ◌+◌, ◌-◌}
 use mathlib.Core.Path.{ap, ◌∙◌}
 use native.Mathlib.Omega.{arith}
-use borrow.Author.Rules.{rules}
 use Rattle.storage.specs.Copying.{copied_run}
 use Rattle.storage.proofs.CopiedRuns.{runs-join}
 use Rattle.storage.proofs.words.copy_run.Goals as goal

@@ -5,7 +5,6 @@ use mathlib.Core.List.{List}
 use native.Mathlib.Omega.{arith}
 use Rattle.storage.specs.Copying.{copied_run}
 use Rattle.storage.proofs.CopiedRuns.{by-between}
-use borrow.Author.Rules.{rules}
 use Rattle.storage.proofs.words.copy_sixteen.Goals as goal
 
 pub returns : goal.returns

@@ -1,12 +1,7 @@
 -- `copy_sixteens` meets its contract. The invariant: j words are copied. The measure: those that are left.
-use Prim.Native.Nat.{◌+◌, ◌-◌, ◌≤◌}
-use mathlib.Core.Path.{◌≡◌, refl, ap, ◌∙◌}
-use native.Mathlib.Omega.{arith}
-use lib.ListN.{length}
-use Rattle.model.specs.Storages.{copied}
-use Rattle.model.proofs.CopyLaws.{copied-length}
+use Prim.Native.Nat.{◌-◌, ◌≤◌}
+use mathlib.Core.Path.{◌≡◌}
 use Rattle.storage.specs.Copying.{copied_run}
-use Rattle.storage.proofs.CopiedRuns.{runs-join}
 use Rattle.storage.proofs.words.copy_sixteens.Given as goal
 
 abbrev pub invariant-loop-j : goal.invariant-loop-j

@@ -1,12 +1,6 @@
 -- `copy_words` meets its contract. The invariant: j words are copied. The measure: those that are left.
-use Prim.Native.Nat.{ℕ, ◌+◌, ◌-◌, ◌≤◌, ◌<◌}
-use mathlib.Core.Path.{◌≡◌, refl, ap, ◌∙◌}
-use mathlib.Core.List.{List}
-use native.Mathlib.Numerals.{add-one}
-use native.Mathlib.Omega.{arith}
-use lib.ListN.{length, get_or, set}
-use Rattle.model.specs.Storages.{copied}
-use Rattle.model.proofs.CopyLaws.{copied-length}
+use Prim.Native.Nat.{◌-◌, ◌≤◌}
+use mathlib.Core.Path.{◌≡◌}
 use Rattle.storage.specs.Copying.{copied_run}
 use Rattle.storage.proofs.words.copy_words.Given as goal
 

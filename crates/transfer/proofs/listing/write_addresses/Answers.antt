@@ -1,15 +1,13 @@
 -- `write_addresses` meets its contract. The invariant: with the addresses of the positions from i on written too, the list is what it
 -- is to be. The measure: the positions left.
-use Prim.Native.Nat.{◌-◌, ◌≤◌, ◌<◌}
+use Prim.Native.Nat.{◌<◌}
 use mathlib.Core.Path.{◌≡◌, refl, ap, ◌∙◌}
 use mathlib.Core.Bool.{true}
-use mathlib.Core.List.{map}
 use native.Mathlib.Numerals.{add-one}
 use native.Mathlib.Omega.{arith}
-use lib.ListN.{length, take, length-set}
-use Rattle.model.specs.Transfers.{fronted}
+use lib.ListN.{length, length-set}
 use Rattle.section.specs.Shares.{address_by, owned_by}
-use Rattle.transfer.proofs.FrontLaws.{Front, starts, same_rest, writes, ends}
+use Rattle.transfer.proofs.FrontLaws.{starts, same_rest, writes, ends}
 use Rattle.transfer.proofs.PairLaws.{known, fitted}
 use Rattle.transfer.proofs.AddressLists.{left, left-all, left-next, left-none}
 use Rattle.transfer.proofs.listing.write_addresses.Goals as goal
@@ -19,7 +17,7 @@ pub loop-i-init : goal.loop-i-init
 loop-i-init c = (omega arith, refl, starts _ _ (omega (arith, left-all c.args.s c.args.positions.now c.args.n c.requires.there, c.requires.room)))
 
 pub offset_bounds-positions-i : goal.offset_bounds-positions-i
-offset_bounds-positions-i c = omega (arith, c.loop-i-test.true, c.requires.there, c.well-formed.1.0.1)
+offset_bounds-positions-i c = omega (arith, c.loop-i-test.true, c.requires.there)
 
 pub bounds-positions-i : goal.bounds-positions-i
 bounds-positions-i c = omega (arith, c.loop-i-test.true, c.requires.there)
@@ -44,7 +42,7 @@ room : (c : In-loop-i) → c.loop-i.i < length c.loop-i.list
 room c = omega (arith, c.loop-i-test.true, c.requires.room, c.loop-i.invariant.1)
 
 pub offset_bounds-list-i : goal.offset_bounds-list-i
-offset_bounds-list-i c = omega (arith, room (goal.at.offset_bounds-list-i c).In-loop-i, c.loop-i.invariant.1, c.well-formed.1.1.1.0.1)
+offset_bounds-list-i c = omega (arith, room (goal.at.offset_bounds-list-i c).In-loop-i, c.loop-i.invariant.1)
 
 pub bounds-list-i : goal.bounds-list-i
 bounds-list-i c = room (goal.at.bounds-list-i c).In-loop-i

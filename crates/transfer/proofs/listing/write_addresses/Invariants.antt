@@ -1,17 +1,13 @@
 -- `write_addresses` meets its contract. The invariant: with the addresses of the positions from i on written too, the list is what it
 -- is to be. The measure: the positions left.
-use Prim.Native.Nat.{◌-◌, ◌≤◌, ◌<◌}
-use mathlib.Core.Path.{◌≡◌, refl, ap, ◌∙◌}
-use mathlib.Core.Bool.{true}
+use Prim.Native.Nat.{◌-◌, ◌≤◌}
+use mathlib.Core.Path.{◌≡◌}
 use mathlib.Core.List.{map}
-use native.Mathlib.Numerals.{add-one}
-use native.Mathlib.Omega.{arith}
-use lib.ListN.{length, take, length-set}
+use lib.ListN.{length, take}
 use Rattle.model.specs.Transfers.{fronted}
-use Rattle.section.specs.Shares.{address_by, owned_by}
-use Rattle.transfer.proofs.FrontLaws.{Front, starts, same_rest, writes, ends}
-use Rattle.transfer.proofs.PairLaws.{known, fitted}
-use Rattle.transfer.proofs.AddressLists.{left, left-all, left-next, left-none}
+use Rattle.section.specs.Shares.{address_by}
+use Rattle.transfer.proofs.FrontLaws.{Front}
+use Rattle.transfer.proofs.AddressLists.{left}
 use Rattle.transfer.proofs.listing.write_addresses.Given as goal
 
 abbrev pub invariant-loop-i : goal.invariant-loop-i

@@ -1,10 +1,9 @@
 -- `ask_pair` meets its contract: the left's refusal, the right's, one of what is asked of both, or the pair.
 use mathlib.Core.Path.{◌≡◌, refl, sym, ap, ◌∙◌, subst}
-use borrow.Author.Rules.{rules}
 use mir.Syntax.{w64}
 use mir.ValLaws.{to_z-of_z}
 use Rattle.numbers.proofs.Signed.{back}
-use Rattle.model.specs.Mappings.{Section, section_with}
+use Rattle.model.specs.Mappings.{section_with}
 use Rattle.model.specs.Ownership.{nat}
 use Rattle.model.specs.Questions.{first_no, AllYes}
 use Rattle.model.specs.Transfers.{of_pair}
@@ -33,7 +32,7 @@ returns-in_default-b c =
     ap Refused (c.refusal_of-in_default-b.ensures ∙ ap refusal_in c.in_default-b.is)
     ∙ right-refused (section_with c.args.left c.args.left_sizes.now) (section_with c.args.right c.args.right_sizes.now) c.args.sender c.args.receiver _ (left_by (goal.at.returns-in_default-b c).In-By) _ (sym c.ask_section-b.ensures.value ∙ c.in_default-b.is)
 
-right_by : (c : In-By-b) → asked_of (right (start c)) ≡ asked.By c.in-By-b.y
+right_by : (c : In-By-b) → asked_of (section_with c.args.right c.args.right_sizes.now) ≡ asked.By c.in-By-b.y
 right_by c = sym c.ask_section-b.ensures.value ∙ c.in-By-b.is
 
 -- what is asked of both
@@ -49,24 +48,22 @@ pub returns-then-q-ne0 : goal.returns-then-q-ne0
 returns-then-q-ne0 c = refused-by (section_with c.args.left c.args.left_sizes.now) (section_with c.args.right c.args.right_sizes.now) c.args.sender c.args.receiver _ c.if-q-ne0.true (ends (goal.at.returns-then-q-ne0 c).After-ends_refusal-q)
 
 -- all of it is answered yes
-yes : (c : Else-q-ne0) → AllYes (of_ends (first c).a.given.0.0 c.in-By-b.y (back w64 c.args.sender) (back w64 c.args.receiver))
+yes : (c : Else-q-ne0) → AllYes (of_ends c.in-By.x c.in-By-b.y (back w64 c.args.sender) (back w64 c.args.receiver))
 yes c = all_yes _ refl (sym c.ends_refusal-q.ensures ∙ c.if-q-ne0.false)
 
 pub share_of-requires : goal.share_of-requires
-share_of-requires c =
-    (
-      subst Sound c.in-By-b.is c.ask_section-b.ensures.sound,
-      listed (section_with c.args.right c.args.right_sizes.now) _ (right_by (goal.at.share_of-requires c).In-By-b),
-      (yes (goal.at.share_of-requires c).Else-q-ne0).0,
-    )
+share_of-requires c = (
+  subst Sound c.in-By-b.is c.ask_section-b.ensures.sound,
+  listed (section_with c.args.right c.args.right_sizes.now) _ (right_by (goal.at.share_of-requires c).In-By-b),
+  (yes (goal.at.share_of-requires c).Else-q-ne0).0,
+)
 
 pub share_of-requires-2 : goal.share_of-requires-2
-share_of-requires-2 c =
-    (
-      subst Sound c.in-By.is c.ask_section-a.ensures.sound,
-      listed (section_with c.args.left c.args.left_sizes.now) _ (left_by (goal.at.share_of-requires-2 c).In-By),
-      (yes (goal.at.share_of-requires-2 c).Else-q-ne0).1.0,
-    )
+share_of-requires-2 c = (
+  subst Sound c.in-By.is c.ask_section-a.ensures.sound,
+  listed (section_with c.args.left c.args.left_sizes.now) _ (left_by (goal.at.share_of-requires-2 c).In-By),
+  (yes (goal.at.share_of-requires-2 c).Else-q-ne0).1.0,
+)
 
 pub returns : goal.returns
 returns c =

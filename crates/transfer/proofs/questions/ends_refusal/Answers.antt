@@ -1,7 +1,6 @@
 -- `ends_refusal` meets its contract: each answer has its number.
 use mathlib.Core.Path.{◌≡◌}
 use mathlib.Core.Bool.{true}
-use borrow.Author.Rules.{rules}
 use borrow.Author.Tests.{eq-eqb, ne_eqb}
 use lib.IntN.{pos}
 use Rattle.model.specs.Questions.{is_below, first_no}

@@ -1,11 +1,9 @@
 -- `count_along` meets its contract. The invariant: what is counted and what lies ahead are all. The measure: what is left of the section.
-use Prim.Native.Nat.{◌+◌, ◌-◌}
-use mathlib.Core.Path.{◌≡◌, sym, ap, ◌∙◌}
+use mathlib.Core.Path.{sym, ap, ◌∙◌}
 use native.Mathlib.Nat.{zero-add}
 use native.Mathlib.Omega.{arith}
 use lib.ListN.{length}
-use Rattle.transfer.specs.Pairs.{places}
-use Rattle.transfer.proofs.AlongLaws.{Stands, ahead, none_ahead, Turn, on-walked, on-tested, places-high, begins, all-ahead, turn}
+use Rattle.transfer.proofs.AlongLaws.{none_ahead, Turn, on-walked, on-tested, places-high, begins, all-ahead, turn}
 use Rattle.transfer.proofs.walk.count_along.Goals as goal
 use Rattle.transfer.proofs.walk.count_along.Goals.{After-owns_at}
 

@@ -1,11 +1,9 @@
 -- `count_along` meets its contract. The invariant: what is counted and what lies ahead are all. The measure: what is left of the section.
 use Prim.Native.Nat.{◌+◌, ◌-◌}
-use mathlib.Core.Path.{◌≡◌, sym, ap, ◌∙◌}
-use native.Mathlib.Nat.{zero-add}
-use native.Mathlib.Omega.{arith}
+use mathlib.Core.Path.{◌≡◌}
 use lib.ListN.{length}
 use Rattle.transfer.specs.Pairs.{places}
-use Rattle.transfer.proofs.AlongLaws.{Stands, ahead, none_ahead, Turn, on-walked, on-tested, places-high, begins, all-ahead, turn}
+use Rattle.transfer.proofs.AlongLaws.{Stands, ahead}
 use Rattle.transfer.proofs.walk.count_along.Given as goal
 
 abbrev pub invariant-loop-t : goal.invariant-loop-t

@@ -1,6 +1,5 @@
 -- `walk_of` meets its contract, whichever share has fewer elements.
 use mathlib.Core.Path.{◌∙◌}
-use borrow.Author.Rules.{rules}
 use Rattle.transfer.specs.Pairs.{places}
 use Rattle.transfer.proofs.PairLaws.{fitted, meets-turned, places-turned}
 use Rattle.transfer.proofs.walk.walk_of.Goals as goal

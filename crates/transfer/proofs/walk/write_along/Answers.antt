@@ -1,14 +1,13 @@
 -- `write_along` meets its contract. The invariant: with what lies ahead written too, the list is what it is to be. The measure: what is
 -- left of the section.
-use Prim.Native.Nat.{◌-◌}
-use mathlib.Core.Path.{◌≡◌, refl, sym, ◌∙◌}
+use mathlib.Core.Path.{refl, sym, ◌∙◌}
 use mathlib.Core.List.{◌∷◌}
 use native.Mathlib.Omega.{arith}
-use lib.ListN.{length, length-set}
+use lib.ListN.{length-set}
 use Rattle.model.specs.Transfers.{fronted}
 use Rattle.transfer.specs.Pairs.{places}
 use Rattle.transfer.proofs.FrontLaws.{Front, starts, same_rest, writes, ends}
-use Rattle.transfer.proofs.AlongLaws.{Stands, ahead, none_ahead, Turn, on-walked, on-tested, count-high, begins, all-ahead, turn}
+use Rattle.transfer.proofs.AlongLaws.{ahead, none_ahead, Turn, on-walked, on-tested, count-high, begins, all-ahead, turn}
 use Rattle.transfer.proofs.walk.write_along.Goals as goal
 use Rattle.transfer.proofs.walk.write_along.Goals.{After-owns_at, Then-owns_at}
 
@@ -34,13 +33,13 @@ pub overflow_cast-list : goal.overflow_cast-list
 overflow_cast-list c = omega (arith, count-high _ _ c.requires.0.meets, c.loop-t-test.true)
 
 pub offset_bounds-list-at : goal.offset_bounds-list-at
-offset_bounds-list-at c = omega (arith, (hit (goal.at.offset_bounds-list-at c).Then-owns_at).room, c.loop-t.invariant.1, c.well-formed.1.0.1)
+offset_bounds-list-at c = omega (arith, (hit (goal.at.offset_bounds-list-at c).Then-owns_at).room, c.loop-t.invariant.1)
 
 pub bounds-list-at : goal.bounds-list-at
 bounds-list-at c = omega (arith, (hit (goal.at.bounds-list-at c).Then-owns_at).room)
 
 pub overflow_add-at : goal.overflow_add-at
-overflow_add-at c = omega (arith, (hit (goal.at.overflow_add-at c).Then-owns_at).room, c.loop-t.invariant.1, c.well-formed.1.0.0)
+overflow_add-at c = omega (arith, (hit (goal.at.overflow_add-at c).Then-owns_at).room, c.loop-t.invariant.1)
 
 pub loop-t-smaller-then-owns_at : goal.loop-t-smaller-then-owns_at
 loop-t-smaller-then-owns_at c = omega (arith, (turned (goal.at.loop-t-smaller-then-owns_at c).After-owns_at).on, c.loop-t-test.true)

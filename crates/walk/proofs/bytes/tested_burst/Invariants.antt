@@ -1,13 +1,9 @@
 -- `tested_burst` meets its contract.
 use Prim.Native.Nat.{◌-◌}
-use mathlib.Core.Logic.{inl, inr}
-use native.Mathlib.Omega.{arith}
-use borrow.Author.Rules.{rules}
 use Rattle.model.specs.ByteFills.{store_entry}
-use Rattle.walk.specs.Moving.{add_from, stepped, Small, Sound, Roomy}
+use Rattle.walk.specs.Moving.{add_from}
 use Rattle.walk.specs.Bursts.{Before}
-use Rattle.walk.proofs.BurstLaws.{Bursting, bursting-starts, bursting-turns, bursting-ends, bursting-steps}
-use Rattle.walk.proofs.ByteRuns.{entry_length}
+use Rattle.walk.proofs.BurstLaws.{Bursting}
 use Rattle.walk.proofs.bytes.tested_burst.Given as goal
 
 abbrev pub invariant-loop-i : goal.invariant-loop-i

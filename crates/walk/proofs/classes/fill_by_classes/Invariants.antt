@@ -1,14 +1,9 @@
 -- `fill_by_classes` meets its contract.
 use Prim.Native.Nat.{◌-◌, ◌/◌}
-use mathlib.Core.Path.{◌≡◌, refl, sym, ◌∙◌}
-use mathlib.Core.Bool.{false}
-use mathlib.Core.Logic.{inl, inr, ⊎_elim}
-use native.Mathlib.Omega.{arith}
-use lib.ListN.{length, length-set}
-use borrow.Author.Rules.{rules}
-use Rattle.walk.specs.Moving.{has_ended}
+use mathlib.Core.Path.{◌≡◌}
+use lib.ListN.{length}
 use Rattle.walk.specs.Learning.{class_of}
-use Rattle.walk.proofs.LearnBytes.{EvenBytes, even-bytes-start, even-goes, even-bytes-end, class-turn, turn-asks}
+use Rattle.walk.proofs.LearnBytes.{EvenBytes}
 use Rattle.walk.proofs.classes.fill_by_classes.Given as goal
 
 abbrev pub invariant-loop-n : goal.invariant-loop-n

@@ -24,14 +24,8 @@ overflow_sub-tries c = omega (arith, ap (λ (s : State). s.paid) c.step-next.ens
 pub nonzero_rem-c : goal.nonzero_rem-c
 nonzero_rem-c c = rw c.period_of.ensures (period-bounds _ c.requires.0.sized).0
 
-pub overflow_mul-c : goal.overflow_mul-c
-overflow_mul-c c = omega (arith, c.requires.2.column, c.requires.1.block, mod-le c.args.s.column c.period_of.result)
-
 pub overflow_add-c : goal.overflow_add-c
 overflow_add-c c = omega (arith, c.requires.2.column, c.requires.1.block, mod-le c.args.s.column c.period_of.result, cost (goal.at.overflow_add-c c).After-step-next, tries-few c.args.f.moves c.args.s.column)
-
-pub moved_on-requires : goal.moved_on-requires
-moved_on-requires c = (c.requires.2.address, c.move_by-add.ensures.1)
 
 pub returns : goal.returns
 unfolding stepped

@@ -1,32 +1,21 @@
 -- `fill_by_columns` meets its contract.
-use Prim.Native.Nat.{◌+◌, ◌-◌, ◌/◌, ◌≤◌, ◌<◌}
+use Prim.Native.Nat.{◌+◌, ◌/◌, ◌≤◌, ◌<◌}
 use mathlib.Core.Path.{◌≡◌, refl, sym, ◌∙◌}
 use mathlib.Core.Bool.{false}
-use mathlib.Core.Logic.{inl, inr, ⊎_elim}
+use mathlib.Core.Logic.{inl, inr}
 use native.Mathlib.Omega.{arith}
 use lib.ListN.{length}
-use borrow.Author.Rules.{rules}
 use Rattle.walk.specs.Moving.{has_ended}
-use Rattle.walk.proofs.LearnBytes.{EvenBytes, even-bytes-start, even-goes, even-bytes-end, columns-advance, advances-length, advances-some}
+use Rattle.walk.proofs.LearnBytes.{even-bytes-start, even-bytes-end, columns-advance, advances-length, advances-some}
 use Rattle.walk.proofs.columns.fill_by_columns.Goals as goal
-use Rattle.walk.proofs.columns.fill_by_columns.Goals.{After-next_turns-made, Else-has_ended, In-loop-n}
+use Rattle.walk.proofs.columns.fill_by_columns.Goals.{After-next_turns-made, Else-has_ended, In-loop-n, else-loop-n-test, then-loop-n-test+then-has_ended}
 
 pub loop-n-init : goal.loop-n-init
 loop-n-init c = (refl, refl, even-bytes-start c.requires.0 c.requires.2)
 
-pub has_ended-requires : goal.has_ended-requires
-has_ended-requires c = c.loop-n.invariant.2.runs.false
-
 -- a turn is made
 goes : (c : Else-has_ended) → has_ended c.args.f.count c.args.f.quota c.loop-n.s ≡ false
 goes c = sym c.has_ended.ensures ∙ c.if-has_ended.false
-
--- and there is room for it
-inside : (c : In-loop-n) → c.loop-n.n < length c.loop-n.list / 4
-inside c = rw c.loop-n.invariant.2.same (omega (arith, c.loop-n-test.true, c.loop-n.invariant.1))
-
-pub next_turns-made-requires : goal.next_turns-made-requires
-next_turns-made-requires c = (even-goes c.requires.0 c.loop-n.invariant.2 (goes (goal.at.next_turns-made-requires c).Else-has_ended), omega (arith, c.requires.1, c.loop-n.invariant.0), inside (goal.at.next_turns-made-requires c).In-loop-n)
 
 -- how far the turns go
 far : (c : After-next_turns-made) → (0 < c.next_turns-made.result.turns)
@@ -35,20 +24,19 @@ far : (c : After-next_turns-made) → (0 < c.next_turns-made.result.turns)
 far c = advances-some ((rw c.loop-n.invariant.2.same (omega (arith, c.loop-n-test.true, c.loop-n.invariant.1)))) c.next_turns-made.ensures
 
 pub overflow_add-n : goal.overflow_add-n
-overflow_add-n c = omega (arith, (far (goal.at.overflow_add-n c).After-next_turns-made).1, c.loop-n.invariant.2.same, c.well-formed.1.1.1.0.0)
+overflow_add-n c = omega (arith, (far (goal.at.overflow_add-n c).After-next_turns-made).1, c.loop-n.invariant.2.same)
 
 pub loop-n-smaller : goal.loop-n-smaller
 loop-n-smaller c = omega (arith, (far (goal.at.loop-n-smaller c).After-next_turns-made).0, (far (goal.at.loop-n-smaller c).After-next_turns-made).1, c.loop-n.invariant.1, c.loop-n.invariant.2.same)
 
 pub loop-n-preserved : goal.loop-n-preserved
-loop-n-preserved c =
-    (
-      advances-length c.next_turns-made.ensures ∙ c.loop-n.invariant.0,
-      c.loop-n.invariant.1,
-      columns-advance c.requires.0 c.loop-n.invariant.2 (omega (arith, c.loop-n-test.true, c.loop-n.invariant.1)) (goes (goal.at.loop-n-preserved c).Else-has_ended) c.next_turns-made.ensures,
-    )
+loop-n-preserved c = (
+  advances-length c.next_turns-made.ensures ∙ c.loop-n.invariant.0,
+  c.loop-n.invariant.1,
+  columns-advance c.requires.0 c.loop-n.invariant.2 (omega (arith, c.loop-n-test.true, c.loop-n.invariant.1)) (goes (goal.at.loop-n-preserved c).Else-has_ended) c.next_turns-made.ensures,
+)
 
 pub returns : goal.returns
 returns c =
     rw c.report_of.ensures (even-bytes-end c.requires.0 c.loop-n.invariant.2
-    (⊎_elim (λ x. inl (omega (arith, x.left, c.loop-n.invariant.1))) (λ x. inr (sym x.1.ensures ∙ x.2.taken)) c.loop-n-test.branch))
+    (elim c.loop-n-test.branch [ else-loop-n-test w ↦ inl (omega arith) | then-loop-n-test+then-has_ended w ↦ inr (sym w.has_ended.ensures ∙ w.if-has_ended.true) ]))

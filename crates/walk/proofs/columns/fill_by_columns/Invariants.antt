@@ -1,13 +1,8 @@
 -- `fill_by_columns` meets its contract.
-use Prim.Native.Nat.{◌+◌, ◌-◌, ◌/◌, ◌≤◌, ◌<◌}
-use mathlib.Core.Path.{◌≡◌, refl, sym, ◌∙◌}
-use mathlib.Core.Bool.{false}
-use mathlib.Core.Logic.{inl, inr, ⊎_elim}
-use native.Mathlib.Omega.{arith}
+use Prim.Native.Nat.{◌-◌, ◌/◌}
+use mathlib.Core.Path.{◌≡◌}
 use lib.ListN.{length}
-use borrow.Author.Rules.{rules}
-use Rattle.walk.specs.Moving.{has_ended}
-use Rattle.walk.proofs.LearnBytes.{EvenBytes, even-bytes-start, even-goes, even-bytes-end, columns-advance, advances-length, advances-some}
+use Rattle.walk.proofs.LearnBytes.{EvenBytes}
 use Rattle.walk.proofs.columns.fill_by_columns.Given as goal
 
 abbrev pub invariant-loop-n : goal.invariant-loop-n

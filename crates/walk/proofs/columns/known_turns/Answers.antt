@@ -1,12 +1,9 @@
 -- `known_turns` meets its contract.
-use Prim.Native.Nat.{◌-◌}
-use mathlib.Core.Logic.{inl, inr}
+use mathlib.Core.Logic.{inr}
 use native.Mathlib.Omega.{arith}
-use borrow.Author.Rules.{rules}
 use Rattle.model.specs.ByteFills.{store_entry}
 use Rattle.walk.specs.Moving.{stepped, Small, Sound, Roomy}
-use Rattle.walk.specs.Learning.{known_in, Known}
-use Rattle.walk.proofs.BurstLaws.{Bursting, bursting-starts, bursting-turns, bursting-ends, bursting-steps}
+use Rattle.walk.proofs.BurstLaws.{bursting-starts, bursting-turns, bursting-ends, bursting-steps}
 use Rattle.walk.proofs.ByteRuns.{entry_length}
 use Rattle.walk.proofs.columns.known_turns.Goals as goal
 use Rattle.walk.proofs.columns.known_turns.Goals.{Else-count-s}
@@ -26,9 +23,6 @@ offset_bounds-columns-q c = let r = ready (goal.at.offset_bounds-columns-q c).El
 pub bounds-columns-q : goal.bounds-columns-q
 bounds-columns-q c = omega (arith, (ready (goal.at.bounds-columns-q c).Else-count-s).1.column, c.requires.2)
 
-pub overflow_cast-add : goal.overflow_cast-add
-overflow_cast-add c = omega (arith, c.shared_slice_known-in-loop-i-1.given c.loop-i.s.column)
-
 pub overflow_cast-s : goal.overflow_cast-s
 overflow_cast-s c = omega (arith, (ready (goal.at.overflow_cast-s c).Else-count-s).1.address)
 
@@ -36,19 +30,13 @@ pub step-requires : goal.step-requires
 step-requires c = ready (goal.at.step-requires c).Else-count-s
 
 pub moved_on-s-requires : goal.moved_on-s-requires
-moved_on-s-requires c = ((ready (goal.at.moved_on-s-requires c).Else-count-s).1.address, omega (arith, c.shared_slice_known-in-loop-i-1.given c.loop-i.s.column))
-
-pub overflow_add-i : goal.overflow_add-i
-overflow_add-i c = omega (arith, c.loop-i-test.true, c.ranges.turns)
+moved_on-s-requires c = ((ready (goal.at.moved_on-s-requires c).Else-count-s).1.address, omega arith)
 
 pub loop-i-preserved : goal.loop-i-preserved
 unfolding stepped
 loop-i-preserved c =
     rw (c.put_entry.ensures, c.moved_on-s.ensures, c.step.ensures)
     (bursting-turns store_entry entry_length _ _ _ c.loop-i.invariant c.loop-i-test.true (c.if-count-s.false, c.if-add-eq0.false))
-
-pub returns-after-loop-i : goal.returns-after-loop-i
-returns-after-loop-i c = bursting-ends store_entry entry_length _ _ _ c.loop-i.invariant c.requires.1 c.requires.0.some (inl c.loop-i-test.false)
 
 pub returns-then-count-s : goal.returns-then-count-s
 returns-then-count-s c = bursting-ends store_entry entry_length _ _ _ c.loop-i.invariant c.requires.1 c.requires.0.some (inr (λ h. omega (arith, c.if-count-s.true, h.0)))

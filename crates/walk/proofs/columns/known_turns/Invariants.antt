@@ -1,13 +1,8 @@
 -- `known_turns` meets its contract.
 use Prim.Native.Nat.{◌-◌}
-use mathlib.Core.Logic.{inl, inr}
-use native.Mathlib.Omega.{arith}
-use borrow.Author.Rules.{rules}
 use Rattle.model.specs.ByteFills.{store_entry}
-use Rattle.walk.specs.Moving.{stepped, Small, Sound, Roomy}
 use Rattle.walk.specs.Learning.{known_in, Known}
-use Rattle.walk.proofs.BurstLaws.{Bursting, bursting-starts, bursting-turns, bursting-ends, bursting-steps}
-use Rattle.walk.proofs.ByteRuns.{entry_length}
+use Rattle.walk.proofs.BurstLaws.{Bursting}
 use Rattle.walk.proofs.columns.known_turns.Given as goal
 
 abbrev pub invariant-loop-i : goal.invariant-loop-i

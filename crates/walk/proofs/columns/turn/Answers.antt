@@ -1,5 +1,4 @@
 -- `turn` meets its contract.
-use borrow.Author.Rules.{rules}
 use Rattle.walk.specs.Moving.{stepped}
 use Rattle.walk.proofs.columns.turn.Goals as goal
 

@@ -1,8 +1,6 @@
 -- `copy_periods` meets its contract. The invariant: whatever goes on over the distance extends the whole.
 use Prim.Native.Nat.{◌-◌}
-use native.Mathlib.Omega.{arith}
-use borrow.Author.Rules.{rules}
-use Rattle.walk.proofs.CopyLaws.{Doubling, doubling-starts, doubling-twice}
+use Rattle.walk.proofs.CopyLaws.{Doubling}
 use Rattle.walk.proofs.copies.copy_periods.Given as goal
 
 abbrev pub invariant-loop-distance : goal.invariant-loop-distance

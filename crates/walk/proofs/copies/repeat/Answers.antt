@@ -1,9 +1,5 @@
 -- `repeat` meets its contract. The invariant: the entries before j are written.
-use Prim.Native.Nat.{◌-◌, ◌≤◌}
-use mathlib.Core.Path.{◌≡◌}
 use native.Mathlib.Omega.{arith}
-use borrow.Author.Rules.{rules}
-use Rattle.walk.specs.Copying.{Extends}
 use Rattle.walk.proofs.CopyLaws.{extends-none, extends-more}
 use Rattle.walk.proofs.copies.repeat.Goals as goal
 
@@ -11,15 +7,9 @@ pub loop-j-init : goal.loop-j-init
 loop-j-init c = (omega arith, c.requires.1, extends-none _ _ _)
 
 pub loop-j-preserved : goal.loop-j-preserved
-loop-j-preserved c =
-    (
-      omega arith,
-      omega arith,
-      rw (c.put_entry.ensures, c.sum.ensures.0, c.word_at-x.ensures)
-          (extends-more c.requires.0 c.loop-j.invariant.0 (omega arith) c.loop-j.invariant.2),
-    )
-
-pub returns : goal.returns
-returns c =
-    let e : c.loop-j.j ≡ c.args.to = omega arith in
-    rw e at c.loop-j.invariant.2
+loop-j-preserved c = (
+  omega arith,
+  omega arith,
+  rw (c.put_entry.ensures, c.sum.ensures.0, c.word_at-x.ensures)
+      (extends-more c.requires.0 c.loop-j.invariant.0 (omega arith) c.loop-j.invariant.2),
+)

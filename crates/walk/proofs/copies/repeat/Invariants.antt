@@ -1,10 +1,6 @@
 -- `repeat` meets its contract. The invariant: the entries before j are written.
 use Prim.Native.Nat.{◌-◌, ◌≤◌}
-use mathlib.Core.Path.{◌≡◌}
-use native.Mathlib.Omega.{arith}
-use borrow.Author.Rules.{rules}
 use Rattle.walk.specs.Copying.{Extends}
-use Rattle.walk.proofs.CopyLaws.{extends-none, extends-more}
 use Rattle.walk.proofs.copies.repeat.Given as goal
 
 abbrev pub invariant-loop-j : goal.invariant-loop-j

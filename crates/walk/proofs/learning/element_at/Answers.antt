@@ -1,11 +1,7 @@
 -- `element_at` meets its contract.
 use native.Mathlib.Omega.{arith}
 use Rattle.walk.specs.Learning.{element_at}
-use Rattle.walk.proofs.LearnLaws.{far-low}
 use Rattle.walk.proofs.learning.element_at.Goals as goal
-
-pub overflow_mul-far : goal.overflow_mul-far
-overflow_mul-far c = let l = far-low _ _ _ c.requires.0 c.requires.1 in omega arith
 
 pub overflow_add-result : goal.overflow_add-result
 unfolding element_at
@@ -14,9 +10,6 @@ overflow_add-result c = omega (arith, rw c.if-e.true at (c.requires.0.inside _ c
 pub returns-then-e : goal.returns-then-e
 unfolding element_at
 returns-then-e c = rw c.if-e.true
-
-pub overflow_sub-result : goal.overflow_sub-result
-overflow_sub-result c = c.requires.0.falls c.if-e.false _ c.requires.1
 
 pub returns : goal.returns
 unfolding element_at

@@ -1,9 +1,6 @@
 -- `steps_until` meets its contract.
 use Prim.Native.Nat.{◌-◌}
-use mathlib.Core.Logic.{inl, inr}
-use native.Mathlib.Omega.{arith}
-use borrow.Author.Rules.{rules}
-use Rattle.walk.proofs.StepLaws.{Stepping, stepping-starts, stepping-asks, stepping-turns, stepping-ends}
+use Rattle.walk.proofs.StepLaws.{Stepping}
 use Rattle.walk.proofs.periods.steps_until.Given as goal
 
 abbrev pub invariant-loop-i : goal.invariant-loop-i

@@ -1,8 +1,6 @@
 -- `enter_from` meets its contract.
 use Prim.Native.Nat.{◌-◌}
-use native.Mathlib.Omega.{arith}
-use borrow.Author.Rules.{rules}
-use Rattle.walk.proofs.SpreadLaws.{Entering, entering-starts, entering-turns}
+use Rattle.walk.proofs.SpreadLaws.{Entering}
 use Rattle.walk.proofs.spread.enter_from.Given as goal
 
 abbrev pub invariant-loop-at : goal.invariant-loop-at

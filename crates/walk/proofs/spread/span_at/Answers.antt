@@ -1,6 +1,5 @@
 -- `span_at` meets its contract.
 use native.Mathlib.Omega.{arith}
-use borrow.Author.Rules.{rules}
 use Rattle.walk.proofs.SpreadLaws.{first-span, both_span, second-span}
 use Rattle.walk.proofs.spread.span_at.Goals as goal
 

@@ -1,5 +1,4 @@
 -- `fill_bytes_learning` meets its contract.
-use borrow.Author.Rules.{rules}
 use Rattle.walk.proofs.OneEntry.{one_entry}
 use Rattle.walk.proofs.tables.fill_bytes_learning.Goals as goal
 

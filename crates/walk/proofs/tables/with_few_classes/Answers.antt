@@ -1,5 +1,4 @@
 -- `with_few_classes` meets its contract.
-use borrow.Author.Rules.{rules}
 use Rattle.walk.proofs.LearnRuns.{none-known}
 use Rattle.walk.proofs.tables.with_few_classes.Goals as goal
 

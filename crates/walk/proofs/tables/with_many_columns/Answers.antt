@@ -1,5 +1,4 @@
 -- `with_many_columns` meets its contract.
-use borrow.Author.Rules.{rules}
 use Rattle.walk.proofs.LearnRuns.{none-known}
 use Rattle.walk.proofs.tables.with_many_columns.Goals as goal
 

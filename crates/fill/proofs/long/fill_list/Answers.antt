@@ -1,6 +1,0 @@
--- `fill_list` meets its contract.
-use borrow.Author.Rules.{rules}
-use Rattle.fill.proofs.long.fill_list.Goals as goal
-
-pub fill_long-requires : goal.fill_long-requires
-fill_long-requires c = (c.requires, c.plan_of.ensures, c.is_long.ensures c.if-is_long.true)

@@ -42,7 +42,7 @@ fn fields_of(c: Copied) -> HpfCopied
 pub(crate) fn saved_of(m: Mapping, sizes: &[u8], storage: &[u64], saved: &mut [u64]) -> HpfCopied
     ensures checkpoint_fields { CheckpointFields
         (copy_of (mapping_with m sizes.now) storage.now saved.old)
-        storage.now saved.new result }
+        storage.exit.now saved.new result }
     ensures copied_fits { CopiedFits (copied_fields result) }
 {
     fields_of(storage::save(m, sizes, storage, saved))
@@ -65,7 +65,7 @@ pub extern "C" fn hpf_checkpoint(
     ensures checkpoint_fields { CheckpointFields
         (copy_of (mapping_of cells processors (cyclic block) stride offset size array_lower template_lower)
         storage.now saved.old)
-        storage.now saved.new result }
+        storage.exit.now saved.new result }
     ensures copied_fits { CopiedFits (copied_fields result) }
 {
     let d = Dealing::Cyclic(block);
@@ -86,7 +86,7 @@ pub extern "C" fn hpf_checkpoint(
 pub(crate) fn restored_of(m: Mapping, sizes: &[u8], saved: &[u64], storage: &mut [u64]) -> HpfCopied
     ensures restore_fields { RestoreFields
         (copy_of (mapping_with m sizes.now) saved.now storage.old)
-        saved.now storage.new result }
+        saved.exit.now storage.new result }
     ensures copied_fits { CopiedFits (copied_fields result) }
 {
     fields_of(storage::load(m, sizes, saved, storage))
@@ -109,7 +109,7 @@ pub extern "C" fn hpf_restore(
     ensures restore_fields { RestoreFields
         (copy_of (mapping_of cells processors (cyclic block) stride offset size array_lower template_lower)
         saved.now storage.old)
-        saved.now storage.new result }
+        saved.exit.now storage.new result }
     ensures copied_fits { CopiedFits (copied_fields result) }
 {
     let d = Dealing::Cyclic(block);

@@ -120,7 +120,7 @@ pub extern "C" fn hpf_gen_block_checkpoint(
     ensures checkpoint_fields { CheckpointFields
         (copy_of (mapping_of cells processors (by_sizes sizes.now) stride offset size array_lower template_lower)
         storage.now saved.old)
-        storage.now saved.new result }
+        storage.exit.now saved.new result }
     ensures copied_fits { CopiedFits (copied_fields result) }
 {
     let d = Dealing::GenBlock;
@@ -154,7 +154,7 @@ pub extern "C" fn hpf_gen_block_restore(
     ensures restore_fields { RestoreFields
         (copy_of (mapping_of cells processors (by_sizes sizes.now) stride offset size array_lower template_lower)
         saved.now storage.old)
-        saved.now storage.new result }
+        saved.exit.now storage.new result }
     ensures copied_fits { CopiedFits (copied_fields result) }
 {
     let d = Dealing::GenBlock;

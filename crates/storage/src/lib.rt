@@ -90,7 +90,7 @@ fn copy_by(m: Mapping, sizes: &[u8], loading: bool, from: &[u64], to: &mut [u64]
 pub fn save(m: Mapping, sizes: &[u8], storage: &[u64], words: &mut [u64]) -> Copied
     ensures result_value { copied_as result ≡ copying (copy_of (mapping_with m sizes.now) storage.now words.old) }
     ensures words_after { words.new ≡ saved (copy_of (mapping_with m sizes.now) storage.now words.old) }
-    ensures storage_value { storage.now ≡ storage.now }
+    ensures storage_value { storage.exit.now ≡ storage.entry.now }
     ensures told_apart { ToldApart (copied_refusals result) }
 {
     copy_by(m, sizes, false, storage, words)
@@ -100,7 +100,7 @@ pub fn save(m: Mapping, sizes: &[u8], storage: &[u64], words: &mut [u64]) -> Cop
 pub fn load(m: Mapping, sizes: &[u8], words: &[u64], storage: &mut [u64]) -> Copied
     ensures result_value { copied_as result ≡ copying (copy_of (mapping_with m sizes.now) words.now storage.old) }
     ensures storage_after { storage.new ≡ loaded (copy_of (mapping_with m sizes.now) words.now storage.old) }
-    ensures words_value { words.now ≡ words.now }
+    ensures words_value { words.exit.now ≡ words.entry.now }
     ensures told_apart { ToldApart (copied_refusals result) }
 {
     copy_by(m, sizes, true, words, storage)

@@ -29,10 +29,6 @@ eighth c =
     c.is_processor.ensures
     (ap not c.if-not-is_processor.false)
 
-number : (c : After-natural) → c.natural.result ≡ nat c.args.processor
-number c =
-    read_of w64 nat c.args.processor c.ranges.processor c.natural.ensures
-
 low : (c : After-natural) → c.natural.result < processors_on c.args.x
 low c =
     below-natural c.args.processor (processors_on c.args.x) c.ranges.processor c.natural.ensures (eighth c)

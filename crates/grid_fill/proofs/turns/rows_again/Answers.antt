@@ -1,7 +1,5 @@
 -- `rows_again` meets its contract.
 use Prim.Native.Nat.{ℕ, ◌*◌, ◌/◌, ◌≤◌}
-use mathlib.Core.Path.{◌≡◌, refl, sym}
-use mathlib.Core.Bool.{Bool, true, false, not}
 use native.Mathlib.Nat.{le_trans, mul-le-mul_right, div-mul-le_self}
 use native.Mathlib.Omega.{arith}
 use Rattle.grid_fill.proofs.turns.rows_again.Goals as goal
@@ -9,10 +7,6 @@ use Rattle.grid_fill.proofs.turns.rows_again.Goals as goal
 -- r whole parts of e fit into n
 parts : (r e n : ℕ) → r ≤ n / e → r * e ≤ n
 parts r e n h = le_trans (mul-le-mul_right e h) (div-mul-le_self n e)
-
-not-false : (b : Bool) → not b ≡ false → b ≡ true
-not-false true e = refl
-not-false false e = sym e
 
 pub returns-then-not-enters : goal.returns-then-not-enters
 returns-then-not-enters c = (omega arith, omega arith, λ h. absurd (omega arith))

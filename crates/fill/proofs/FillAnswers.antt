@@ -10,26 +10,27 @@ use lib.IntN.{ℤ}
 use mir.Syntax.{w64}
 use mir.Val.{SFits}
 use mir.ValLaws.{to_z-of_z}
+use Rattle.std.specs.Prelude.{Result, Ok, Err}
 use Rattle.numbers.specs.Words.{words_of}
 use Rattle.numbers.proofs.Signed.{back}
 use Rattle.model.specs.Mappings.{Section}
 use Rattle.model.specs.Ownership.{nat}
 use Rattle.model.specs.Questions.{first_no, of_section, of_processor, of_place, of_quota}
 use Rattle.model.specs.Filling.{Filled, stopped, Outcome, fill_by, answer}
-use Rattle.model.specs.Calls.{FillCall, walk_of, request_of, fill, ToldApart}
+use Rattle.model.specs.Calls.{FillCall, walk_of, request_of, fill}
 use Rattle.model.specs.ByteFills.{ByteFill, in_words, store_entries, bytes_by, bytes_after}
+use Rattle.model.specs.declared.refusals.Refusal.{Refusal}
+use Rattle.model.specs.Refusals.{number}
 use Rattle.model.proofs.QuestionLaws.{both_yes}
+use Rattle.model.proofs.RefusalLaws.{told-apart}
 use Rattle.section.specs.Shares.{share_of}
 use Rattle.walk.specs.declared.moves.Report.{Report}
 use Rattle.fill.specs.declared.ready.Start.{Start}
-use Rattle.fill.specs.declared.ready.Ready.{Ready}
-use Rattle.fill.specs.declared.ready.Ready.TheVariants.{Go, Refused}
-use Rattle.fill.specs.declared.Filled.TheVariants as filled
 use Rattle.fill.specs.Ready.{start_at, ready_of, share_from, Started, Accepted, FillsFrom, FillsBytesFrom}
-use Rattle.fill.specs.Answers.{outcome_as, filled_refusals, report_of, FilledBytes}
+use Rattle.fill.specs.Answers.{outcome_as, report_of, FilledBytes}
 
 -- an answer about numbers that the machine reads back is one about the numbers
-pub of-parameters : (x : Section) (q t z : ℤ) {r : Ready} → SFits w64 q → SFits w64 t → SFits w64 z
+pub of-parameters : (x : Section) (q t z : ℤ) {r : Result Start ℕ} → SFits w64 q → SFits w64 t → SFits w64 z
     → r ≡ ready_of x (back w64 q) (back w64 t) (back w64 z) → r ≡ ready_of x q t z
 of-parameters x q t z f g h e = e ∙ (λ i. ready_of x (to_z-of_z w64 q f i) (to_z-of_z w64 t g i) (to_z-of_z w64 z h i))
 
@@ -52,7 +53,7 @@ module _ (x : Section) (q t z : ℤ) where
     place : s.place.0 ≡ nat t
     quota : s.quota ≡ nat z
 
-  passed : (s : Start) → ready_of x q t z ≡ Go s → Passed s
+  passed : (s : Start) → ready_of x q t z ≡ Ok s → Passed s
   unfolding ready_of no-to
   passed s e = go (eqb no-to 0) refl
     where
@@ -73,14 +74,14 @@ module _ (x : Section) (q t z : ℤ) where
   accepted e = (both_yes (of_section x) (of_processor x.mapping q ++ of_place x q t ++ of_quota z) refl e).0
 
   -- a fill that passed is one of an accepted section
-  pub taken : (s : Start) → Started s → ready_of x q t z ≡ Go s → Accepted s
+  pub taken : (s : Start) → Started s → ready_of x q t z ≡ Ok s → Accepted s
   taken s d e = let p = passed s e in record { started = d; source = x; accepted = accepted p.none; same = p.share }
 
   record Stopped (n : ℕ) : Type 0 where
     first : no-to ≡ n
     some : n ≡ 0 → ⊥
 
-  refused : (n : ℕ) → ready_of x q t z ≡ Refused n → Stopped n
+  refused : (n : ℕ) → ready_of x q t z ≡ Err n → Stopped n
   unfolding ready_of no-to
   refused n e = go (eqb no-to 0) refl
     where
@@ -90,35 +91,32 @@ module _ (x : Section) (q t z : ℤ) where
           let f : no-to ≡ n = let g = rw p at e in cc in
           record { first = f; some = λ g. eqb-false no-to 0 p (f ∙ g) }
 
-  pub told-apart : (n : ℕ) → ready_of x q t z ≡ Refused n → ToldApart (filled_refusals (filled.Refused n))
-  told-apart n e = (omega (arith, (refused n e).some), tt)
-
   -- ---- the fill that is asked for, in each case
 
   abbrev outcome : ℕ → Filled → List ℕ → Outcome
   outcome n f l = record { refusal = n; filled = cond (eqb n 0) f (stopped 0 l) }
 
-  runs : (s : Start) → ready_of x q t z ≡ Go s → (l : List ℕ)
+  runs : (s : Start) → ready_of x q t z ≡ Ok s → (l : List ℕ)
       → record { refusal = 0; filled = fill_by (walk_of x) s.place.0 s.quota l } ≡ fill (call l)
   unfolding fill answer request_of no-to
   runs s e l =
       let p = passed s e in
       λ i. outcome (sym p.none i) (fill_by (walk_of x) (p.place i) (p.quota i) l) l
 
-  stays : (n : ℕ) → ready_of x q t z ≡ Refused n → (l : List ℕ) → record { refusal = n; filled = stopped 0 l } ≡ fill (call l)
+  stays : (n : ℕ) → ready_of x q t z ≡ Err n → (l : List ℕ) → record { refusal = n; filled = stopped 0 l } ≡ fill (call l)
   unfolding fill answer request_of no-to
   stays n e l = let s = refused n e in rw (s.first, ne_eqb n 0 s.some)
 
   -- ---- words
 
-  pub fill_done : (s : Start) (l l' : List ℕ) (r : Report) → ready_of x q t z ≡ Go s → FillsFrom s l l' r
-      → outcome_as (filled.Done r) l' ≡ fill (call l)
+  pub fill_done : (s : Start) (l l' : List ℕ) (r : Report) → ready_of x q t z ≡ Ok s → FillsFrom s l l' r
+      → outcome_as (Ok r) l' ≡ fill (call l)
   fill_done s l l' r e h =
       let p = passed s e in
       ap (λ (f : Filled). record { refusal = 0; filled = f }) (sym (h x (accepted p.none) p.share)) ∙ runs s e l
 
-  pub fill-refused : (n : ℕ) (l : List ℕ) → ready_of x q t z ≡ Refused n → outcome_as (filled.Refused n) l ≡ fill (call l)
-  fill-refused n l e = stays n e l
+  pub fill-refused : (r : Refusal) (l : List ℕ) → ready_of x q t z ≡ Err (number r) → outcome_as (Err r) l ≡ fill (call l)
+  fill-refused r l e = stays (number r) e l
 
   -- ---- bytes
 
@@ -126,8 +124,8 @@ module _ (x : Section) (q t z : ℤ) where
   abbrev stored : List ℕ → Outcome → List ℕ
   stored bs o = bytes_by bs o.filled
 
-  pub bytes-done : (s : Start) (bs bs' : List ℕ) (r : Report) → ready_of x q t z ≡ Go s → FillsBytesFrom s bs bs' r
-      → FilledBytes (bytes_call bs) bs' (filled.Done r)
+  pub bytes-done : (s : Start) (bs bs' : List ℕ) (r : Report) → ready_of x q t z ≡ Ok s → FillsBytesFrom s bs bs' r
+      → FilledBytes (bytes_call bs) bs' (Ok r)
   unfolding in_words bytes_after
   bytes-done s bs bs' r e h =
       let p = passed s e in
@@ -139,6 +137,6 @@ module _ (x : Section) (q t z : ℤ) where
       )
 
   -- a refused fill stores nothing
-  pub bytes-refused : (n : ℕ) (bs : List ℕ) → ready_of x q t z ≡ Refused n → FilledBytes (bytes_call bs) bs (filled.Refused n)
+  pub bytes-refused : (r : Refusal) (bs : List ℕ) → ready_of x q t z ≡ Err (number r) → FilledBytes (bytes_call bs) bs (Err r)
   unfolding in_words bytes_after store_entries
-  bytes-refused n bs e = let o = stays n e (words_of 4 bs) in (ap report_of o, ap (stored bs) o, told-apart n e)
+  bytes-refused r bs e = let o = stays (number r) e (words_of 4 bs) in (ap report_of o, ap (stored bs) o, told-apart {A = Report} (Err r))

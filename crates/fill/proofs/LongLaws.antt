@@ -3,7 +3,7 @@ use Prim.Native.Nat.{ℕ, ◌+◌, ◌-◌, ◌*◌, ◌/◌, ◌%◌, ◌^◌, 
 use mathlib.Core.Path.{◌≡◌, sym, ap, ◌∙◌, subst}
 use mathlib.Core.Bool.{true}
 use mathlib.Core.List.{List, ◌++◌}
-use native.Mathlib.Nat.{mul-le-mul_right, div-mul-le_self, mod-lt}
+use native.Mathlib.Nat.{mod-lt}
 use native.Mathlib.Omega.{arith}
 use lib.ListN.{length, get_or, take, drop}
 use Rattle.numbers.specs.Words.{words_of}
@@ -35,20 +35,9 @@ use Rattle.fill.specs.declared.plan.Plan.TheVariants.{Constant, Learnt}
 use Rattle.fill.specs.declared.long.Period.{Period}
 use Rattle.fill.specs.SectionMoves.{block_walk, cyclic_address, on_way, column_at, elements_of}
 use Rattle.fill.specs.Starting.{InBlocks, PacesOf, PlannedFor, Planned, FillsBlocks, elements_in}
-use Rattle.fill.specs.Long.{moves_in, column_in, Returned, Ahead, state_after, Passed}
+use Rattle.fill.specs.Long.{moves_in, column_in, Returned, state_after, Passed}
 use Rattle.fill.proofs.ReadyLaws.{elements-placed}
 use Rattle.fill.proofs.StartLaws.{way-low}
-
--- ---- how many periods are ahead
-
-pub ahead_of : (s : Start) (p : Period) (room n : ℕ) → 0 < n → s.place.0 < s.section.count → 3 ≤ s.quota
-    → n ≤ (s.section.count - 1 - s.place.0) / p.places → n ≤ (s.quota - 3) / p.tries → n ≤ room / p.entries → Ahead s p room n
-ahead_of s p room n some here least places tries entries = record {
-  some = some;
-  places = omega (arith, mul-le-mul_right p.places places, div-mul-le_self (s.section.count - 1 - s.place.0) p.places);
-  tries = omega (arith, mul-le-mul_right p.tries tries, div-mul-le_self (s.quota - 3) p.tries);
-  entries = omega (arith, mul-le-mul_right p.entries entries, div-mul-le_self room p.entries);
-}
 
 -- ---- the walk of a plan
 

@@ -6,10 +6,11 @@ use mathlib.Core.Bool.{Bool, true, false, cond, ◌&&◌, ◌||◌}
 use mathlib.Core.List.{List, ◌++◌}
 use mathlib.Core.Logic.{inl, inr}
 use native.Mathlib.Omega.{arith}
-use borrow.Author.Tests.{ltb-true, eqb-true, eqb-false, eq-eqb, ne_eqb, lt-ltb, le-ltb}
+use borrow.Author.Tests.{ltb-true, eqb-true, eqb-false, ne_eqb}
 use lib.Dec.{ltb, eqb}
-use lib.IntN.{ℤ, pos, negsuc}
-use lib.Signed.{le_z, lt_z}
+use lib.IntN.{ℤ, pos}
+use lib.Signed.{le_z}
+use Rattle.std.specs.Prelude.{Ok, Err}
 use Rattle.numbers.proofs.Tests.{both_true, either_true}
 use Rattle.model.specs.Mappings.{Dealing, Section}
 use Rattle.model.specs.Ownership.{nat}
@@ -19,7 +20,6 @@ use Rattle.model.proofs.QuestionLaws.{between_is, below-is, all_yes, asks-on, st
 use Rattle.model.proofs.AcceptedLaws.{mapping-yes, whole-mapping}
 use Rattle.mapping.specs.Parts.{part_in}
 use Rattle.section.specs.declared.questions.Strided.{Strided}
-use Rattle.section.specs.declared.questions.Asked.TheVariants as asked
 use Rattle.section.specs.declared.shares.Share.{Share}
 use Rattle.section.specs.Strides.{strided_of, Bounded, moved, index_at}
 use Rattle.section.specs.Shares.{share_in, share_of, owned_by}
@@ -27,7 +27,6 @@ use Rattle.section.specs.Answers.{asked_of}
 use Rattle.section.proofs.StridedLaws.{indices-fall, index-inside}
 use Rattle.section.proofs.ShareLaws.{owned-by}
 use Rattle.section.proofs.CallAnswers.{passed, stopped}
-use Rattle.fill.specs.declared.ready.Ready.TheVariants.{Refused}
 use Rattle.walk.specs.Learning.{shifted, element_at, Placed}
 use Rattle.fill.specs.Starting.{elements_in}
 use Rattle.fill.specs.Ready.{start_at, ready_by, ready_of, is_place_in, left_of, ready_in, Started, SoundReady}
@@ -55,24 +54,6 @@ elements-placed w b =
 -- ---- question 10
 
 module _ (s : Share) where
-  pub negative-no : (t : ℤ) → lt_z t (pos 0) ≡ true → false ≡ is_place_in s t
-  unfolding is_place_in
-  negative-no (pos n) e = absurd (omega (arith, ltb-true n 0 e))
-  negative-no (negsuc n) e = refl
-
-  module _ (t : ℤ) (natural : le_z (pos 0) t ≡ true) where
-    pub count_yes : nat t ≡ s.section.count → true ≡ is_place_in s t
-    unfolding is_place_in
-    count_yes e = rw (natural, eq-eqb (nat t) s.section.count e)
-
-    pub past-no : s.section.count < nat t → false ≡ is_place_in s t
-    unfolding is_place_in
-    past-no h = rw (natural, ne_eqb (nat t) s.section.count (λ e. omega arith), le-ltb (nat t) s.section.count (omega arith))
-
-    pub position-owned : nat t < s.section.count → owned_by s (nat t) ≡ is_place_in s t
-    unfolding is_place_in
-    position-owned h = rw (natural, ne_eqb (nat t) s.section.count (λ e. omega arith), lt-ltb (nat t) s.section.count h)
-
   -- what a yes says
   pub record Standing (t : ℕ) : Type 0 where
     pub place : t ≤ s.section.count
@@ -145,7 +126,7 @@ module _ (x : Section) (q t z : ℤ) where
       let place = sym (place_same ok) in
       λ i. cond (processor i) (cond (place i) (cond (between (pos 3) (pos 1000000) z) 0 11) 10) 8
 
-  pub ready_by_lem : (w : Strided) → asked_of x ≡ asked.By w → ready_in w x.mapping.dealing q t z ≡ ready_of x q t z
+  pub ready_by_lem : (w : Strided) → asked_of x ≡ Ok w → ready_in w x.mapping.dealing q t z ≡ ready_of x q t z
   unfolding ready_in ready_of left
   ready_by_lem w e =
       let p = passed x w e in
@@ -153,7 +134,7 @@ module _ (x : Section) (q t z : ℤ) where
       ∙ ap (ready_by (share_of x (nat q)) t z)
       (left-same p.none ∙ sym (asks-on (of_section x) left (all_yes (of_section x) refl p.none)))
 
-  pub ready_refused : (e : ℕ) → asked_of x ≡ asked.Refused e → Refused e ≡ ready_of x q t z
+  pub ready_refused : (e : ℕ) → asked_of x ≡ Err e → Err e ≡ ready_of x q t z
   unfolding ready_of left
   ready_refused e r =
       let s = stopped x e r in

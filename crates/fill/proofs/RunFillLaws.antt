@@ -31,28 +31,8 @@ use Rattle.mapping.specs.Parts.{part_in}
 use Rattle.fill.specs.declared.ready.Start.{Start}
 use Rattle.fill.specs.SectionMoves.{onward}
 use Rattle.fill.specs.Ready.{share_from}
-use Rattle.fill.specs.RunFills.{addresses_from, fewest, entries_in, InRun}
+use Rattle.fill.specs.RunFills.{addresses_from, entries_in, InRun}
 use Rattle.fill.proofs.DriveLaws.{onward-adds}
-
--- ---- the fewer of two
-
-fewest-suc : (a b : ℕ) → fewest (suc a) (suc b) ≡ suc (fewest a b)
-fewest-suc a b = elim (dec_lt a b) [
-  | yes h ↦ rw (lt-ltb a b h, lt-ltb (suc a) (suc b) (omega arith))
-  | no h ↦ rw (le-ltb a b (omega arith), le-ltb (suc a) (suc b) (omega arith))
-]
-
-fewest-none : (a : ℕ) → fewest a 0 ≡ 0
-fewest-none a = rw (le-ltb a 0 (omega arith))
-
-pub fewest-le : (a b : ℕ) → (fewest a b ≤ a) × (fewest a b ≤ b)
-fewest-le a b = elim (dec_lt a b) [
-  | yes h ↦ rw (lt-ltb a b h) (omega arith, omega arith)
-  | no h ↦ rw (le-ltb a b (omega arith)) (omega arith, omega arith)
-]
-
-none_of : (b : ℕ) → fewest 0 b ≡ 0
-none_of b = omega (arith, fewest-le 0 b)
 
 -- ---- any walk
 
@@ -86,16 +66,14 @@ module _ (v : Walk) (from high d : ℕ) (r : Runs v from high d) where
 
   pub run-fill : (l : List ℕ) (t quota : ℕ) → from ≤ t → t < high → Ends v high d t (entries_in high t quota (length l)) (fill_by v t quota l)
   unfolding fill_by addresses_from
-  run-fill [] t quota a h = none t [] _ (fewest-none (fewest (high - t) (quota - 2))) h
+  run-fill [] t quota a h = none t [] _ (omega arith) h
   run-fill (x ∷ xs) t quota a h = go (run-fill xs (suc t) (quota - 1) (omega arith)) (dec_lt quota 3) (dec_lt (suc t) high)
     where
       other : eqb t v.count ≡ false
       other = ne_eqb t v.count (λ e. omega (arith, r.inside))
 
       few : quota < 3 → entries_in high t quota (suc (length xs)) ≡ 0
-      few q =
-          let z : quota - 2 ≡ 0 = omega arith in
-          omega (arith, fewest-le (fewest (high - t) (quota - 2)) (suc (length xs)), fewest-le (high - t) (quota - 2))
+      few q = omega arith
 
       -- one entry is written, and the walk goes on from u
       on : (m u : ℕ) → v.next t ≡ u → 3 ≤ quota → entries_in high t quota (suc (length xs)) ≡ suc m
@@ -116,12 +94,8 @@ module _ (v : Walk) (from high d : ℕ) (r : Runs v from high d) where
           rw (other, tries) (none t (x ∷ xs) _ (few q) h)
       go ih (no q) (yes s) =
           let f = ih s in
-          let far : high - t ≡ suc (high - suc t) = omega arith in
-          let left : quota - 2 ≡ suc (quota - 1 - 2) = omega arith in
           let m : ℕ = entries_in high (suc t) (quota - 1) (length xs) in
-          let more : entries_in high t quota (suc (length xs)) ≡ suc m =
-          (λ i. fewest (fewest (far i) (left i)) (suc (length xs))) ∙ ap (λ (n : ℕ). fewest n (suc (length xs))) (fewest-suc (high - suc t) (quota - 1 - 2))
-          ∙ fewest-suc _ (length xs) in
+          let more : entries_in high t quota (suc (length xs)) ≡ suc m = omega arith in
           let here : suc t + m ≡ t + suc m = omega arith in
           on m (suc t) (r.next t a h ∙ rw (lt-ltb (suc t) high s)) (omega arith) more
           (record {
@@ -135,11 +109,7 @@ module _ (v : Walk) (from high d : ℕ) (r : Runs v from high d) where
               → v.address t ∷ take m l ≡ addresses_from (suc m) (v.address t) d
           stored m l e g = ap (λ (k : List ℕ). v.address t ∷ k) (e ∙ ap (λ (n : ℕ). addresses_from m n d) g)
       go ih (no q) (no s) =
-          let far : high - t ≡ suc 0 = omega arith in
-          let left : quota - 2 ≡ suc (quota - 1 - 2) = omega arith in
-          let more : entries_in high t quota (suc (length xs)) ≡ 1 =
-          (λ i. fewest (fewest (far i) (left i)) (suc (length xs))) ∙ ap (λ (n : ℕ). fewest n (suc (length xs))) (fewest-suc 0 (quota - 1 - 2))
-          ∙ fewest-suc _ (length xs) ∙ ap suc (ap (λ (n : ℕ). fewest n (length xs)) (none_of (quota - 1 - 2)) ∙ none_of (length xs)) in
+          let more : entries_in high t quota (suc (length xs)) ≡ 1 = omega arith in
           on 0 v.count (r.next t a h ∙ rw (le-ltb (suc t) high (omega arith))) (omega arith) more
           (rw (at_count v (quota - 1) xs)
           (record { entries = refl; tries = refl; place = rw (le-ltb (t + 1) high (omega arith)); list = refl }))

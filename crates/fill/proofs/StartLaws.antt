@@ -21,12 +21,13 @@ use Rattle.fill.specs.declared.ready.Start.{Start}
 use Rattle.walk.specs.declared.learning.Elements.{Elements}
 use Rattle.walk.specs.declared.learning.Task.{Task}
 use Rattle.fill.specs.declared.plan.Plan.TheVariants.{Constant, Learnt}
-use Rattle.walk.specs.Moving.{Small}
+use Rattle.walk.specs.Moving.{Small, Still}
 use Rattle.walk.specs.Bursts.{Starts}
 use Rattle.fill.specs.SectionMoves.{block_walk, on_way, column_at, StandsAt}
 use Rattle.walk.specs.Driving.{FillsBytes}
-use Rattle.walk.specs.Learning.{FillsBytesEven}
+use Rattle.walk.specs.Learning.{Begins, FillsBytesEven}
 use Rattle.fill.specs.Starting.{Planned, InBlocks, FillsBlocks, elements_in, task_in, StateOf}
+use Rattle.fill.proofs.ReadyLaws.{elements-placed}
 
 pub way-low : (up : Bool) (k q : ℕ) → q < k → on_way up k q < k
 way-low true k q h = h
@@ -92,8 +93,10 @@ module _ (s : Start) (a : InBlocks s) where
   pub constant-starts : (r : State) → StateOf s r → (m : Moves) → Planned s.section s.processor (Constant m) → Starts m s.section.count s.quota r
   constant-starts r t m p = let f = p a.taken.source a.taken.accepted a.taken.same in starts r t m f.0 f.1
 
-  pub learnt-starts : (r : State) → StateOf s r → (m : Moves) → Planned s.section s.processor (Learnt m) → Starts m s.section.count s.quota r
-  learnt-starts r t m p = let f = p a.taken.source a.taken.accepted a.taken.same in starts r t m f.0 f.1
+  pub learnt-begins : (r : State) → StateOf s r → (m : Moves) → Planned s.section s.processor (Learnt m) → Begins (task_in s m) r × Still m
+  learnt-begins r t m p =
+      let f = p a.taken.source a.taken.accepted a.taken.same in
+      ((elements-placed s.section a.started.section-bounded, starts r t m f.0 f.1), f.3)
 
   -- ---- what a loop gives of every walk that the plan's moves go along, it gives of the section's
 

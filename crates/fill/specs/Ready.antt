@@ -1,6 +1,6 @@
 -- Questions 8, 10 and 11 of a fill, after those about its section, and what a fill that passed them may count on.
 -- Definitions only.
-use Rattle.std.specs.Prelude.{ℕ, ◌≤◌, ◌<◌, ◌≡◌, Bool, true, cond, ◌&&◌, ◌||◌, List, [], ◌∷◌, ◌++◌, ltb, eqb, ℤ, pos}
+use Rattle.std.specs.Prelude.{ℕ, ◌≤◌, ◌<◌, ◌≡◌, Bool, true, cond, ◌&&◌, ◌||◌, List, [], ◌∷◌, ◌++◌, ltb, eqb, ℤ, pos, Result, Ok, Err}
 use Rattle.std.specs.Int.Signed.{le_z}
 use Rattle.numbers.specs.Words.{words_of}
 use Rattle.model.specs.Mappings.{Dealing, Section}
@@ -15,8 +15,6 @@ use Rattle.section.specs.Strides.{Bounded}
 use Rattle.section.specs.Shares.{share_in, share_of, owned_by}
 use Rattle.walk.specs.declared.moves.Report.{Report}
 use Rattle.fill.specs.declared.ready.Start.{Start}
-use Rattle.fill.specs.declared.ready.Ready.{Ready}
-use Rattle.fill.specs.declared.ready.Ready.TheVariants.{Go, Refused}
 use Rattle.walk.specs.Driving.{ByteFilled}
 
 -- ---- the questions
@@ -26,10 +24,10 @@ abbrev pub start_at : Share → ℤ → ℤ → Start
 start_at s t z =
     record { section = s.section; processor = s.processor; extent = s.extent; place = record { 0 = nat t }; quota = nat z }
 
-abbrev pub ready_by : Share → ℤ → ℤ → ℕ → Ready
-ready_by s t z e = cond (eqb e 0) (Go (start_at s t z)) (Refused e)
+abbrev pub ready_by : Share → ℤ → ℤ → ℕ → Result Start ℕ
+ready_by s t z e = cond (eqb e 0) (Ok (start_at s t z)) (Err e)
 
-unfoldable pub ready_of : Section → ℤ → ℤ → ℤ → Ready
+unfoldable pub ready_of : Section → ℤ → ℤ → ℤ → Result Start ℕ
 ready_of x q t z =
     ready_by (share_of x (nat q)) t z (first_no (of_section x ++ of_processor x.mapping q ++ of_place x q t ++ of_quota z))
 
@@ -47,7 +45,7 @@ left_of s q t z =
     ∷ ask 11 (between (pos 3) (pos 1000000) z)
     ∷ []
 
-unfoldable pub ready_in : Strided → Dealing → ℤ → ℤ → ℤ → Ready
+unfoldable pub ready_in : Strided → Dealing → ℤ → ℤ → ℤ → Result Start ℕ
 ready_in w d q t z =
     let s : Share = share_in w (nat q) (part_in d (nat q)) in
     ready_by s t z (first_no (left_of s q t z))
@@ -67,9 +65,9 @@ pub record Started (s : Start) : Type 0 where
   pub most : s.quota ≤ 1000000
 
 -- what is known of each case
-abbrev pub SoundReady : Ready → Type 0
-SoundReady (Go s) = Started s
-SoundReady (Refused e) = 0 < e
+abbrev pub SoundReady : Result Start ℕ → Type 0
+SoundReady (Ok s) = Started s
+SoundReady (Err e) = 0 < e
 
 -- it is one of an accepted section
 pub record Accepted (s : Start) : Type 0 where

@@ -7,10 +7,11 @@
 ghost use Rattle.std.specs.Prelude.{◌≡◌};
 ghost use Rattle.model.specs.Mappings.{section_with};
 ghost use Rattle.model.specs.Calls as calls;
-ghost use Rattle.fill.specs.Answers.{outcome_as, filled_refusals, FilledBytes};
+ghost use Rattle.model.specs.Refusals.{refusals};
+ghost use Rattle.fill.specs.Answers.{outcome_as, FilledBytes};
 
-use model::Section;
-use ready::{Ready, ask_fill};
+use model::{Refusal, Section};
+use ready::ask_fill;
 use runs::fill_bytes_from;
 use walk::moves::Report;
 use words::fill_from;
@@ -23,14 +24,7 @@ mod start;
 pub mod ways;
 pub mod words;
 
-// What a fill reports, or the number of the question that was answered no.
-#[derive(Clone, Copy)]
-pub enum Filled {
-    Done(Report),
-    Refused(u32),
-}
-
-// A fill of 32-bit words.
+// A fill of 32-bit words. Not one generic function with that of bytes: this one is made of fills of bytes.
 pub fn fill(
     x: Section,
     sizes: &[u8],
@@ -38,14 +32,12 @@ pub fn fill(
     place: i64,
     quota: i64,
     list: &mut [u32],
-) -> Filled
+) -> Result<Report, Refusal>
     ensures list_after { outcome_as result list.new ≡ calls.fill (record { section = section_with x sizes.now; processor = processor; place = place; quota = quota; list = list.old }) }
-    ensures told_apart { calls.ToldApart (filled_refusals result) }
+    ensures told_apart { calls.ToldApart (refusals result) }
 {
-    match ask_fill(x, sizes, processor, place, quota) {
-        Ready::Go(s) => Filled::Done(fill_from(s, list)),
-        Ready::Refused(e) => Filled::Refused(e),
-    }
+    let s = ask_fill(x, sizes, processor, place, quota)?;
+    Ok(fill_from(s, list))
 }
 
 // A fill of bytes, 4 to an address, lowest first.
@@ -56,11 +48,9 @@ pub fn fill_into_bytes(
     place: i64,
     quota: i64,
     list: &mut [u8],
-) -> Filled
+) -> Result<Report, Refusal>
     ensures { FilledBytes (record { section = section_with x sizes.now; processor = processor; place = place; quota = quota; bytes = list.old }) list.new result }
 {
-    match ask_fill(x, sizes, processor, place, quota) {
-        Ready::Go(s) => Filled::Done(fill_bytes_from(s, list)),
-        Ready::Refused(e) => Filled::Refused(e),
-    }
+    let s = ask_fill(x, sizes, processor, place, quota)?;
+    Ok(fill_bytes_from(s, list))
 }

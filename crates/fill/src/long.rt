@@ -37,8 +37,7 @@ fn moves_of(plan: Plan) -> Moves
     ensures { result ≡ moves_in plan }
 {
     match plan {
-        Plan::Constant(m) => m,
-        Plan::Learnt(m) => m,
+        Plan::Constant(m) | Plan::Learnt(m) => m,
     }
 }
 
@@ -50,7 +49,8 @@ fn column_at(w: Strided, t: Position) -> u64
     column_of(w, cell_at(w, t))
 }
 
-// The fill of a part of a list, by the loop for its plan.
+// The fill of a part of a list, by the loop for its plan. Not one function with fill_planned: the two learn by
+// loops of other names, one of which is for long lists.
 fn fill_part(s: Start, plan: Plan, list: &mut [u8]) -> Report
     requires { InBlocks s × Planned s.section s.processor plan }
     ensures { FillsBlocks s list.old list.new result }
@@ -72,7 +72,7 @@ fn periods_ahead(s: Start, p: Period, room: usize) -> u64
 {
     let by_places = (s.section.count - 1 - s.place.0) / p.places;
     let by_tries = (s.quota - LEAST_TRIES) / p.tries;
-    moves::least(moves::least(by_places, by_tries), (room / p.entries) as u64)
+    by_places.min(by_tries).min((room / p.entries) as u64)
 }
 
 // The periods passed, and what is left.
@@ -97,7 +97,7 @@ fn pass_periods(s: Start, m: Moves, p: Period, list: &mut [u8]) -> Report
     Report {
         entries,
         tries: last.state.paid,
-        place: Position(if place.0 < w.count { place.0 } else { w.count }),
+        place: Position(place.0.min(w.count)),
     }
 }
 
@@ -106,21 +106,11 @@ fn has_returned(s: Start, column: u64, entries: usize, r: Report) -> bool
     requires { Bounded s.section × (r.place.0 < s.section.count) × (3 ≤ s.quota) }
     ensures { result ≡ true → Returned s column entries r }
 {
-    if r.entries != entries {
-        return false;
-    }
-    if r.place.0 <= s.place.0 {
-        return false;
-    }
-    if r.tries == 0 {
-        return false;
-    }
-    if s.quota - LEAST_TRIES < r.tries {
-        return false;
-    }
-    let w = s.section;
-    let place = r.place;
-    column_at(w, place) == column
+    r.entries == entries
+        && s.place.0 < r.place.0
+        && 0 < r.tries
+        && r.tries <= s.quota - LEAST_TRIES
+        && column_at(s.section, r.place) == column
 }
 
 // The fill of a list whose first entries, so many, seem to be a period.
@@ -156,9 +146,7 @@ fn fill_long(s: Start, plan: Plan, list: &mut [u8]) -> Report
     requires { InBlocks s × Planned s.section s.processor plan × (s.place.0 < s.section.count) }
     ensures { FillsBlocks s list.old list.new result }
 {
-    let w = s.section;
-    let t = s.place;
-    let column = column_at(w, t);
+    let column = column_at(s.section, s.place);
     let e = steps_of_period(moves_of(plan), column);
     if s.quota < LEAST_TRIES * (e + 1) {
         return fill_part(s, plan, list);
@@ -175,10 +163,7 @@ fn is_long(s: Start, room: usize) -> bool
     requires { s.place.0 ≤ s.section.count }
     ensures { result ≡ true → s.place.0 < s.section.count }
 {
-    if room < LONG {
-        return false;
-    }
-    LONG as u64 <= s.section.count - s.place.0
+    LONG <= room && LONG as u64 <= s.section.count - s.place.0
 }
 
 // The fill of a list of bytes.
@@ -187,13 +172,12 @@ pub(crate) fn fill_list(s: Start, list: &mut [u8]) -> Report
     ensures { FillsBlocks s list.old list.new result }
 {
     if is_long(s, list.len() / 4) {
-        let w = s.section;
-        return fill_long(s, plan_of(w, s.processor), list);
+        return fill_long(s, plan_of(s.section, s.processor), list);
     }
     fill_blocks(s, list)
 }
 
-// The same by a plan that was found before.
+// The same by a plan that was found before; apart from the other for the reason that fill_planned is.
 pub(crate) fn fill_planned_list(s: Start, plan: Plan, list: &mut [u8]) -> Report
     requires { InBlocks s × Planned s.section s.processor plan }
     ensures { FillsBlocks s list.old list.new result }

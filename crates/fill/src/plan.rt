@@ -30,36 +30,28 @@ fn moves_by(k: u64, spread: u64, steps: Steps, near: u64, far: u64, both: u64) -
     requires { 0 < spread }
     ensures { result ≡ moves_by k spread steps near far both }
 {
+    let none = Moves {
+        block: k,
+        up: 0,
+        down: 0,
+        first: 1,
+        second: 0,
+        near,
+        far,
+        both,
+    };
     match steps {
-        Steps::NoStep => Moves {
-            block: k,
-            up: 0,
-            down: 0,
-            first: 1,
-            second: 0,
-            near,
-            far,
-            both,
-        },
+        Steps::NoStep => none,
         Steps::OneStep(a) => Moves {
-            block: k,
-            up: 0,
-            down: 0,
             first: a.cells / spread,
-            second: 0,
-            near,
-            far,
-            both,
+            ..none
         },
         Steps::TwoSteps(r, w) => Moves {
-            block: k,
             up: r.column,
             down: w.column,
             first: r.cells / spread,
             second: w.cells / spread,
-            near,
-            far,
-            both,
+            ..none
         },
     }
 }
@@ -72,8 +64,7 @@ fn period(w: Strided, q: u64, n: u64) -> u64
     if w.count <= n {
         return 0;
     }
-    let l = w.layout;
-    held_below(l, q, Index(n * w.stride))
+    held_below(w.layout, q, Index(n * w.stride))
 }
 
 // With stride 1 an address moves by k for each course, and by the columns.
@@ -96,7 +87,7 @@ fn line_moves(w: Strided, r: Step, b: Step) -> Moves
     )
 }
 
-// Moves that are constant, or that are learnt.
+// Moves that are constant, or that are learnt. An enum, since a function may hand out no function value.
 #[derive(Clone, Copy)]
 pub enum Plan {
     Constant(Moves),

@@ -3,7 +3,7 @@
 ghost use Rattle.std.specs.Prelude.{◌≡◌, ◌/◌, ◌≤◌, ◌<◌, length};
 ghost use Rattle.model.specs.ByteFills.{store_entries};
 ghost use Rattle.fill.specs.Ready.{Accepted, FillsBytesFrom};
-ghost use Rattle.fill.specs.RunFills.{addresses_from, fewest, entries_in, InRun};
+ghost use Rattle.fill.specs.RunFills.{addresses_from, entries_in, InRun};
 
 use crate::long::fill_list;
 use crate::plan::onward_by;
@@ -14,25 +14,15 @@ use section::shares::{Extent, Span};
 use walk::bytes::put_entry;
 use walk::moves::{self, Report};
 
-fn least(a: u64, b: u64) -> u64
-    ensures { result ≡ fewest a b }
-{
-    if a < b {
-        return a;
-    }
-    b
-}
-
 // How many entries a fill writes from place t of a run: one for each try while the least of them is left,
 // as far as the run and the list go.
 fn entries_in(r: Span, t: Position, quota: u64, room: usize) -> usize
     requires { (t.0 < r.high.0) × (3 ≤ quota) }
     ensures { result ≡ entries_in r.high.0 t.0 quota room }
 {
-    least(
-        least(r.high.0 - t.0, quota - (LEAST_TRIES - 1)),
-        room as u64,
-    ) as usize
+    (r.high.0 - t.0)
+        .min(quota - (LEAST_TRIES - 1))
+        .min(room as u64) as usize
 }
 
 // Addresses stored one after another, each so much on from the one before it.
@@ -40,12 +30,10 @@ fn put_run(list: &mut [u8], n: usize, first: Address, add: u64)
     requires { (n ≤ length list.old / 4) × (first.0 < 4294967296) × (add < 4294967296) }
     ensures { list.new ≡ store_entries list.old 0 (addresses_from n first.0 add) }
 {
-    let mut i: usize = 0;
     let mut x = first.0;
-    while i < n {
+    for i in 0..n {
         put_entry(list, i, x as u32);
         x = (x + add) % moves::ADDRESSES;
-        i += 1;
     }
 }
 
@@ -72,13 +60,11 @@ pub(crate) fn fill_run(s: Start, r: Span, list: &mut [u8]) -> Report
     requires { Accepted s × (s.extent ≡ Extent.Run r) }
     ensures { FillsBytesFrom s list.old list.new result }
 {
-    let w = s.section;
-    let t = s.place;
-    if w.count <= t.0 {
+    if s.section.count <= s.place.0 {
         return Report {
             entries: 0,
             tries: 0,
-            place: t,
+            place: s.place,
         };
     }
     fill_along(s, r, list)
@@ -89,8 +75,7 @@ pub fn fill_bytes_from(s: Start, list: &mut [u8]) -> Report
     requires { Accepted s }
     ensures { FillsBytesFrom s list.old list.new result }
 {
-    let e = s.extent;
-    match e {
+    match s.extent {
         Extent::Blocks => fill_list(s, list),
         Extent::Run(r) => fill_run(s, r, list),
     }

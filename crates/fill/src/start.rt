@@ -20,12 +20,10 @@ pub(crate) fn task_of(s: Start, m: Moves) -> Task
     ensures { result ≡ task_in s m }
 {
     let w = s.section;
-    let l = w.layout;
-    let first = w.first;
     Task {
         elements: Elements {
-            layout: l,
-            first,
+            layout: w.layout,
+            first: w.first,
             stride: w.stride,
             upward: w.upward,
         },
@@ -55,19 +53,19 @@ pub(crate) fn state_at(s: Start) -> State
 {
     let w = s.section;
     let t = s.place;
+    let past = State {
+        column: 0,
+        address: Address(0),
+        place: t,
+        paid: 0,
+    };
     if w.count <= t.0 {
-        return State {
-            column: 0,
-            address: Address(0),
-            place: t,
-            paid: 0,
-        };
+        return past;
     }
     State {
         column: column_of(w, cell_at(w, t)),
         address: address_at(w, t),
-        place: t,
-        paid: 0,
+        ..past
     }
 }
 
@@ -84,8 +82,8 @@ pub fn fill_blocks(s: Start, list: &mut [u8]) -> Report
     }
 }
 
-// The same by a plan that was found before. It stands beside the other, and not under it, since a
-// plan that is handed on in memory would cost every fill of a section some 30 ns.
+// The same by a plan that was found before. A twin that stays: under one function a plan is handed on
+// in memory, which costs every fill of a section some 30 ns.
 pub(crate) fn fill_planned(s: Start, plan: Plan, list: &mut [u8]) -> Report
     requires { InBlocks s × Planned s.section s.processor plan }
     ensures { FillsBlocks s list.old list.new result }

@@ -11,6 +11,7 @@ use crate::runs::fill_run;
 use section::shares::{Extent, Share, Span};
 use walk::moves::Report;
 
+// An enum for the same reason as `Plan`.
 #[derive(Clone, Copy)]
 pub enum Way {
     Blocks(Plan),
@@ -23,10 +24,8 @@ pub fn way_of(s: Share) -> Way
     requires { section.Accepted s }
     ensures { WayOf s result }
 {
-    let w = s.section;
-    let e = s.extent;
-    match e {
-        Extent::Blocks => Way::Blocks(plan_of(w, s.processor)),
+    match s.extent {
+        Extent::Blocks => Way::Blocks(plan_of(s.section, s.processor)),
         Extent::Run(r) => Way::Run(r),
     }
 }

@@ -18,10 +18,8 @@ fn put_words(bytes: &[u8], n: usize, list: &mut [u32])
     requires { (n ≤ length bytes.now / 4) × (n ≤ length list.old) }
     ensures { list.new ≡ take n (words_of 4 bytes.now) ++ drop n list.old }
 {
-    let mut i: usize = 0;
-    while i < n {
+    for i in 0..n {
         list[i] = word_at(bytes, i);
-        i += 1;
     }
 }
 
@@ -50,10 +48,7 @@ fn chunk_end(n: usize, entries: usize) -> usize
     requires { n < entries }
     ensures { (n < result) × (result ≤ entries) × (result ≤ n + 1024) }
 {
-    if entries - n < CHUNK {
-        return entries;
-    }
-    n + CHUNK
+    n + CHUNK.min(entries - n)
 }
 
 // The fill of a list, one chunk after another, each from the place and with the tries that the
@@ -62,24 +57,21 @@ pub fn fill_from(s: Start, list: &mut [u32]) -> Report
     requires { Accepted s }
     ensures { FillsFrom s list.old list.new result }
 {
-    let w = s.section;
-    let extent = s.extent;
     let mut place = s.place;
     let mut paid: u64 = 0;
     let mut n: usize = 0;
+    // Not a 'for' over chunks: one may end early, and the next begins where it ended.
     while n < list.len() {
-        if place.0 == w.count {
+        if place.0 == s.section.count {
             break;
         }
         if s.quota - paid < LEAST_TRIES {
             break;
         }
         let chunk = Start {
-            section: w,
-            processor: s.processor,
-            extent,
-            place: place,
+            place,
             quota: s.quota - paid,
+            ..s
         };
         let end = chunk_end(n, list.len());
         let r = fill_chunk(chunk, &mut list[n..end]);
@@ -90,6 +82,6 @@ pub fn fill_from(s: Start, list: &mut [u32]) -> Report
     Report {
         entries: n,
         tries: paid,
-        place: place,
+        place,
     }
 }

@@ -2,28 +2,28 @@
 use Prim.Native.Nat.{ℕ}
 use mathlib.Core.Path.{◌≡◌, refl, sym, ap, subst, ◌∙◌}
 use mathlib.Core.Bool.{Bool, true, false, cond, ◌&&◌}
-use mathlib.Core.List.{List, [], ◌∷◌, ◌++◌}
-use native.Mathlib.Nat.{pos_of_ne-zero}
-use native.Mathlib.Omega.{arith}
+use mathlib.Core.List.{List, ◌++◌}
 use lib.Dec.{eqb}
 use lib.IntN.{ℤ, pos}
-use borrow.Author.Tests.{eqb-true, eqb-false, ne_eqb}
-use Rattle.model.specs.declared.Grid as grids
+use borrow.Author.Tests.{ne_eqb}
+use Rattle.std.proofs.Common.{Ok, Err}
+use Rattle.model.specs.declared.three.Ranked.{Ranked}
+use Rattle.model.specs.declared.Mapping as mappings
 use Rattle.model.specs.Mappings.{Mapping}
 use Rattle.model.specs.Ownership.{nat, from_lower, declared_index, layout_of, owner, rank, held, back_to}
 use Rattle.model.specs.Questions.{Question, first_no, is_below, is_index}
-use Rattle.model.specs.Calls.{OwnershipAnswer, ToldApart}
-use Rattle.model.specs.Grids.{Three, Grid, mappings_of, grid_with, grid_array, number_of, indices_of, of_grid, of_indices, of_grid_processor, of_grid_address}
+use Rattle.model.specs.Calls.{OwnershipAnswer}
+use Rattle.model.specs.declared.three.Three.{Three}
+use Rattle.model.specs.Grids.{Grid, mappings_of, grid_with, grid_array, number_of, indices_of, of_grid, of_indices, of_grid_processor, of_grid_address}
 use Rattle.model.specs.GridCalls.{indices_in, grid_ownership, GridBackAnswer, grid_going_back}
 use Rattle.model.proofs.QuestionLaws.{all_yes, asks-on, stops}
 use Rattle.model.proofs.GridAccepted.{InLimits, Mapped, mappings-yes, grid-limits}
 use Rattle.mapping.specs.Answers.{no_owner}
-use Rattle.grid.specs.declared.dimensions.Dimensions.{Dimensions}
-use Rattle.grid.specs.declared.dimensions.Gridded.TheVariants as gridded
-use Rattle.grid.specs.Dimensions.{three_with, AllKnown, mapping_to, dimensions_with, gridded_of}
+use Rattle.grid.specs.Dimensions.{Dimensions}
+use Rattle.grid.specs.Dimensions.{three_with, AllKnown, mappings_to, dimensions_with, gridded_of}
 use Rattle.grid.specs.Answers.{indices_from, has_index, ownership_on, not_found, going_back_on}
 use Rattle.grid.proofs.DimensionLaws.{known, same_index}
-use Rattle.grid.proofs.AskLaws.{mappings-to}
+use Rattle.grid.proofs.AskLaws.{says-yes, says-no, mappings-to}
 
 -- ---- what is left to ask of three mappings
 
@@ -39,32 +39,23 @@ found m q x =
     let i : ℕ = back_to (grid_array m).owner (grid_array m).size (nat q) (nat x) in
     cond (eqb e 0) (record { refusal = 0; indices = indices_of m i }) (not_found e)
 
-module _ (g : grids.Grid) (b c d : List ℕ) where
+module _ (g : Ranked mappings.Mapping) (b c d : List ℕ) where
   abbrev whole : Grid
   whole = grid_with g b c d
 
   abbrev three : Three Mapping
-  three = three_with g.first (mapping_to g.rank (pos 2) g.second) (mapping_to g.rank (pos 3) g.third) b c d
+  three = three_with g.dimensions.first (mappings_to g).second (mappings_to g).third b c d
 
   -- ---- a grid that was refused
 
-  module _ (e : ℕ) (r : gridded_of g b c d ≡ gridded.Refused e) where
+  module _ (e : ℕ) (r : gridded_of g b c d ≡ Err e) where
     pub record Stopped : Type 0 where
       pub first : first_no (of_grid whole) ≡ e
       pub some : e ≡ 0 → ⊥
 
     stopped : Stopped
     unfolding gridded_of
-    stopped = go (eqb (first_no (of_grid whole)) 0) refl
-      where
-        go : (t : Bool) → eqb (first_no (of_grid whole)) 0 ≡ t → Stopped
-        go true p = absurd (let f = rw p at r in let z : ◌≡◌ {A = ℕ} 0 1 = cc in omega arith)
-        go false p =
-            let f : first_no (of_grid whole) ≡ e = let h = rw p at r in cc in
-            record { first = f; some = λ z. eqb-false _ 0 p (f ∙ z) }
-
-    pub told-apart : ToldApart (e ∷ [])
-    told-apart = (pos_of_ne-zero stopped.some, tt)
+    stopped = let s = says-no _ (dimensions_with g b c d) e r in record { first = s.0; some = s.1 }
 
     refused-on : (rest : List Question) → first_no (of_grid whole ++ rest) ≡ e
     refused-on rest = stops (of_grid whole) rest (λ z. stopped.some (sym stopped.first ∙ z)) ∙ stopped.first
@@ -84,13 +75,9 @@ module _ (g : grids.Grid) (b c d : List ℕ) where
     pub none : first_no (of_grid whole) ≡ 0
     pub is : x ≡ dimensions_with g b c d
 
-  pub passed : (x : Dimensions) → gridded_of g b c d ≡ gridded.By x → Passed x
+  pub passed : (x : Dimensions) → gridded_of g b c d ≡ Ok x → Passed x
   unfolding gridded_of
-  passed x e = go (eqb (first_no (of_grid whole)) 0) refl
-    where
-      go : (t : Bool) → eqb (first_no (of_grid whole)) 0 ≡ t → Passed x
-      go true p = let h = rw p at e in record { none = eqb-true _ 0 p; is = cc }
-      go false p = absurd (let f = rw p at e in let z : ◌≡◌ {A = ℕ} 0 1 = cc in omega arith)
+  passed x e = let s = says-yes _ (dimensions_with g b c d) x e in record { none = s.0; is = s.1 }
 
   module _ (ok : first_no (of_grid whole) ≡ 0) where
     each : Mapped three
@@ -102,9 +89,9 @@ module _ (g : grids.Grid) (b c d : List ℕ) where
     all_known : AllKnown (dimensions_with g b c d) b c d
     unfolding grid_array
     all_known = record {
-      first = known g.first b each.first;
-      second = known (mapping_to g.rank (pos 2) g.second) c each.second;
-      third = known (mapping_to g.rank (pos 3) g.third) d each.third;
+      first = known g.dimensions.first b each.first;
+      second = known (mappings_to g).second c each.second;
+      third = known (mappings_to g).third d each.third;
       processors = limits.processors;
       size = limits.size;
     }
@@ -117,9 +104,9 @@ module _ (g : grids.Grid) (b c d : List ℕ) where
         → (is_index three.first r && is_index three.second s && is_index three.third t)
         ≡ (has_index (dimensions_with g b c d).first r && has_index (dimensions_with g b c d).second s && has_index (dimensions_with g b c d).third t)
     same_test r s t =
-        let u = same_index g.first b each.first r in
-        let v = same_index (mapping_to g.rank (pos 2) g.second) c each.second s in
-        let w = same_index (mapping_to g.rank (pos 3) g.third) d each.third t in
+        let u = same_index g.dimensions.first b each.first r in
+        let v = same_index (mappings_to g).second c each.second s in
+        let w = same_index (mappings_to g).third d each.third t in
         λ i. u i && v i && w i
 
     owned-by : (r s t : ℤ) → ownership_on (dimensions_with g b c d) b c d r s t ≡ owned three (indices_from r s t)
@@ -155,7 +142,7 @@ module _ (g : grids.Grid) (b c d : List ℕ) where
         rw (asked-on (of_grid_processor (grid_array (mappings_of whole)) q ++ of_grid_address (grid_array (mappings_of whole)) q x))
         (ap (λ (m : Three Mapping). found m q x) (mappings-to g b c d))
 
-  module _ (x : Dimensions) (e : gridded_of g b c d ≡ gridded.By x) where
+  module _ (x : Dimensions) (e : gridded_of g b c d ≡ Ok x) where
     pub known_by : AllKnown x b c d
     known_by = let p = passed x e in subst (λ (y : Dimensions). AllKnown y b c d) (sym p.is) (all_known p.none)
 

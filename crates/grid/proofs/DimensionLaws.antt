@@ -6,6 +6,7 @@ use mathlib.Core.List.{List}
 use native.Mathlib.Omega.{arith}
 use borrow.Author.Tests.{eq-eqb}
 use lib.IntN.{ℤ, pos, ◌-ℤ◌, ◌+ℤ◌}
+use Rattle.std.proofs.Common.{Ok}
 use Rattle.model.specs.declared.Mapping as mappings
 use Rattle.model.specs.declared.Layout.{Layout}
 use Rattle.model.specs.Mappings.{Dealing, cyclic, gen_block, dealing_with, mapping_with}
@@ -23,7 +24,6 @@ use Rattle.model.proofs.QuestionLaws.{Below, below-is}
 use Rattle.model.proofs.RunOwners.{owner-run}
 use Rattle.mapping.specs.declared.parts.Part.{Part}
 use Rattle.mapping.specs.declared.parts.Part.TheVariants.{Blocks, Run}
-use Rattle.mapping.specs.declared.questions.Mapped.TheVariants.{By}
 use Rattle.mapping.specs.Answers.{mapping_of, mapped_of}
 use Rattle.mapping.specs.Parts.{Low, part_in, held_in, found_in, owner_for, Listed}
 use Rattle.mapping.proofs.CallLaws.{listed_by}
@@ -85,14 +85,14 @@ index_below x j e = below-is (j -ℤ x.lower) (pos x.layout.size) (sym (within-f
 -- ---- a mapping that passed its questions
 
 module _ (m : mappings.Mapping) (sizes : List ℕ) (ok : Passes (mapping_with m sizes)) where
-  by : mapped_of (mapping_with m sizes) ≡ By (layout_of (mapping_with m sizes)) m.lower
+  by : mapped_of (mapping_with m sizes) ≡ Ok (record { layout = layout_of (mapping_with m sizes); lower = m.lower })
   unfolding mapped_of
   by = rw (eq-eqb _ 0 ok)
 
   pub known : Known (dimension_with m sizes) sizes
   known = record {
     ranged = (mapped (mapping_with m sizes) ok, (bounds-in (mapping_with m sizes) ok).lower);
-    listed = listed_by (mapping_with m sizes) _ _ by;
+    listed = listed_by (mapping_with m sizes) _ by;
   }
 
   pub same_index : (j : ℤ) → is_index (mapping_with m sizes) j ≡ has_index (dimension_with m sizes) j

@@ -13,7 +13,7 @@ use Rattle.model.specs.Calls.{OwnershipAnswer}
 use Rattle.model.proofs.AddressLaws.{rank_lt}
 use Rattle.model.proofs.ProductLaws as products
 use Rattle.model.proofs.QuestionLaws.{below-is}
-use Rattle.grid.specs.declared.dimensions.Dimensions.{Dimensions}
+use Rattle.grid.specs.Dimensions.{Dimensions}
 use Rattle.grid.specs.declared.elements.Kept.{Kept}
 use Rattle.grid.specs.declared.elements.Held.{Held}
 use Rattle.grid.specs.Dimensions.{array_in, grid_in, AllKnown}

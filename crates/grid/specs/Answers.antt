@@ -1,22 +1,22 @@
 -- The answers of this crate: what is left to ask of accepted dimensions, and each case read as document 02's numbers.
 -- Definitions only.
-use Rattle.std.specs.Prelude.{ℕ, ◌*◌, ◌/◌, ◌%◌, ◌<◌, ◌≡◌, Bool, cond, ◌&&◌, List, [], ◌∷◌, ℤ, pos, ◌+ℤ◌, ◌-ℤ◌}
+use Rattle.std.specs.Prelude.{ℕ, ◌*◌, ◌/◌, ◌%◌, ◌<◌, ◌≡◌, Bool, cond, ◌&&◌, List, ℤ, pos, ◌+ℤ◌, ◌-ℤ◌, Result, Ok, Err}
 use Rattle.model.specs.Mappings.{dealing_with}
 use Rattle.model.specs.Ownership.{nat, rank, held, back_to}
 use Rattle.model.specs.Questions.{between, is_below}
 use Rattle.model.specs.Calls.{OwnershipAnswer}
 use Rattle.model.specs.Axes.{Array, paired}
-use Rattle.model.specs.Grids.{Three}
+use Rattle.model.specs.declared.three.Three.{Three}
 use Rattle.model.specs.GridCalls.{GridBackAnswer, zeros}
+use Rattle.model.specs.declared.refusals.Refusal.{Refusal}
+use Rattle.model.specs.Refusals.{number}
 use Rattle.mapping.specs.Answers.{Ranged, no_owner}
 use Rattle.mapping.specs.Parts.{Low, part_in, held_in, found_in}
 use Rattle.grid.specs.declared.dimensions.Dimension.{Dimension}
-use Rattle.grid.specs.declared.dimensions.Dimensions.{Dimensions}
 use Rattle.grid.specs.declared.elements.Kept.{Kept}
 use Rattle.grid.specs.declared.elements.Held.{Held}
-use Rattle.grid.specs.declared.elements.Found.{Found}
-use Rattle.grid.specs.declared.elements.Found.TheVariants as found
-use Rattle.grid.specs.Dimensions.{grid_in}
+use Rattle.model.specs.declared.Declared.{Declared}
+use Rattle.grid.specs.Dimensions.{Dimensions, grid_in}
 
 -- three declared indices
 abbrev pub indices_from : ℤ → ℤ → ℤ → Three ℤ
@@ -55,14 +55,9 @@ ownership_on x b c d i j k =
 abbrev pub not_found : ℕ → GridBackAnswer
 not_found e = record { refusal = e; indices = zeros }
 
-abbrev pub found_as : Found → GridBackAnswer
-found_as (found.At i j k) = record { refusal = 0; indices = indices_from i.0 j.0 k.0 }
-found_as (found.Refused e) = not_found e
-
--- the numbers of the refusals that it holds, if any
-abbrev pub found_refusals : Found → List ℕ
-found_refusals (found.At i j k) = []
-found_refusals (found.Refused e) = e ∷ []
+abbrev pub found_as : Result (Three Declared) Refusal → GridBackAnswer
+found_as (Ok x) = record { refusal = 0; indices = indices_from x.first.0 x.second.0 x.third.0 }
+found_as (Err e) = not_found (number e)
 
 -- what coordinate q has of a dimension
 abbrev pub held_by : Dimension → List ℕ → ℕ → Held

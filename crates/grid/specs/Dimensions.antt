@@ -1,21 +1,16 @@
 -- The dimensions of a grid that passed its questions, and what is known of them. Definitions only.
-use Rattle.std.specs.Prelude.{ℕ, ◌*◌, ◌≤◌, cond, List, ◌++◌, eqb, ℤ, pos}
-use Rattle.std.specs.Int.Signed.{le_z}
+use Rattle.std.specs.Prelude.{ℕ, ◌*◌, ◌≤◌, cond, List, ◌++◌, eqb, Result, Ok, Err}
 use Rattle.model.specs.declared.Mapping as mappings
-use Rattle.model.specs.declared.Grid as grids
+use Rattle.model.specs.declared.three.Ranked.{Ranked}
 use Rattle.model.specs.Mappings.{Mapping, dealing_with, mapping_with}
 use Rattle.model.specs.Ownership.{layout_of}
 use Rattle.model.specs.Questions.{first_no, of_mapping}
 use Rattle.model.specs.Axes.{Array, product}
-use Rattle.model.specs.Grids.{Three, grid_with, of_mappings, of_products, of_grid}
+use Rattle.model.specs.declared.three.Three.{Three}
+use Rattle.model.specs.Grids.{up_to, grid_with, of_mappings, of_products, of_grid}
 use Rattle.mapping.specs.Answers.{Ranged}
 use Rattle.mapping.specs.Parts.{owner_for, Listed}
 use Rattle.grid.specs.declared.dimensions.Dimension.{Dimension}
-use Rattle.grid.specs.declared.dimensions.Dimensions.{Dimensions}
-use Rattle.grid.specs.declared.dimensions.Asked.{Asked}
-use Rattle.grid.specs.declared.dimensions.Asked.TheVariants as asked
-use Rattle.grid.specs.declared.dimensions.Gridded.{Gridded}
-use Rattle.grid.specs.declared.dimensions.Gridded.TheVariants as gridded
 use Rattle.grid.specs.Ranks.{single_numbers}
 
 -- ---- one dimension
@@ -24,14 +19,10 @@ abbrev pub dimension_with : mappings.Mapping → List ℕ → Dimension
 dimension_with m sizes = record { layout = layout_of (mapping_with m sizes); lower = m.lower; dealing = m.dealing }
 
 -- a mapping that passes its questions, or the first of them that is answered no
-unfoldable pub asked_of : mappings.Mapping → List ℕ → Asked
+unfoldable pub asked_of : mappings.Mapping → List ℕ → Result Dimension ℕ
 asked_of m sizes =
     let e = first_no (of_mapping (mapping_with m sizes)) in
-    cond (eqb e 0) (asked.By (dimension_with m sizes)) (asked.Refused e)
-
-abbrev pub refusal_in : Asked → ℕ
-refusal_in (asked.By x) = 0
-refusal_in (asked.Refused e) = e
+    cond (eqb e 0) (Ok (dimension_with m sizes)) (Err e)
 
 -- the array of a dimension
 abbrev pub array_in : Dimension → List ℕ → Array
@@ -48,6 +39,9 @@ pub record Known (x : Dimension) (sizes : List ℕ) : Type 0 where
 
 -- ---- three
 
+abbrev pub Dimensions : Type 0
+Dimensions = Three Dimension
+
 abbrev pub three_with : mappings.Mapping → mappings.Mapping → mappings.Mapping → List ℕ → List ℕ → List ℕ → Three Mapping
 three_with m n o b c d = record { first = mapping_with m b; second = mapping_with n c; third = mapping_with o d }
 
@@ -55,10 +49,10 @@ abbrev pub dimensions_by : mappings.Mapping → mappings.Mapping → mappings.Ma
 dimensions_by m n o b c d = record { first = dimension_with m b; second = dimension_with n c; third = dimension_with o d }
 
 -- three mappings that pass their questions and 17 of the products, or the first question that is answered no
-unfoldable pub three_of : mappings.Mapping → mappings.Mapping → mappings.Mapping → List ℕ → List ℕ → List ℕ → Gridded
+unfoldable pub three_of : mappings.Mapping → mappings.Mapping → mappings.Mapping → List ℕ → List ℕ → List ℕ → Result Dimensions ℕ
 three_of m n o b c d =
     let e = first_no (of_mappings (three_with m n o b c d) ++ of_products (three_with m n o b c d)) in
-    cond (eqb e 0) (gridded.By (dimensions_by m n o b c d)) (gridded.Refused e)
+    cond (eqb e 0) (Ok (dimensions_by m n o b c d)) (Err e)
 
 -- their arrays as one
 abbrev pub grid_in : Dimensions → List ℕ → List ℕ → List ℕ → Array
@@ -74,16 +68,16 @@ pub record AllKnown (x : Dimensions) (b c d : List ℕ) : Type 0 where
 
 -- ---- a grid
 
--- the mapping of dimension `at`, as a call passes it, or one element on one processor
-abbrev pub mapping_to : ℤ → ℤ → mappings.Mapping → mappings.Mapping
-mapping_to rank at m = cond (le_z at rank) m single_numbers
+-- its mappings, as a call passes them, with one element on one processor in each dimension past the rank
+abbrev pub mappings_to : Ranked mappings.Mapping → Three mappings.Mapping
+mappings_to g = up_to g.rank single_numbers g.dimensions
 
-abbrev pub dimensions_with : grids.Grid → List ℕ → List ℕ → List ℕ → Dimensions
+abbrev pub dimensions_with : Ranked mappings.Mapping → List ℕ → List ℕ → List ℕ → Dimensions
 dimensions_with g b c d =
-    dimensions_by g.first (mapping_to g.rank (pos 2) g.second) (mapping_to g.rank (pos 3) g.third) b c d
+    dimensions_by (mappings_to g).first (mappings_to g).second (mappings_to g).third b c d
 
 -- the dimensions of a grid that passes its questions, or the first question that is answered no
-unfoldable pub gridded_of : grids.Grid → List ℕ → List ℕ → List ℕ → Gridded
+unfoldable pub gridded_of : Ranked mappings.Mapping → List ℕ → List ℕ → List ℕ → Result Dimensions ℕ
 gridded_of g b c d =
     let e = first_no (of_grid (grid_with g b c d)) in
-    cond (eqb e 0) (gridded.By (dimensions_with g b c d)) (gridded.Refused e)
+    cond (eqb e 0) (Ok (dimensions_with g b c d)) (Err e)

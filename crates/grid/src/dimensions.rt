@@ -1,11 +1,12 @@
 // The questions about a grid on whatever numbers and lists a caller passes, 17 before and after those of
 // each dimension; and the dimensions of a grid that passes them.
 ghost use Rattle.std.specs.Prelude.{◌≡◌};
-ghost use Rattle.grid.specs.Dimensions.{asked_of, refusal_in, three_of, gridded_of};
+ghost use Rattle.model.specs.Refusals.{by_number};
+ghost use Rattle.grid.specs.Dimensions.{asked_of, three_of, gridded_of};
 
-use crate::ranks::{mapping_to, products_fit};
-use mapping::questions::{Mapped, ask_mapping, list_fits, within};
-use model::{Dealing, Grid, Layout, Mapping};
+use crate::ranks::{products_fit, single};
+use mapping::questions::{ask_mapping, list_fits, within};
+use model::{Dealing, Grid, Layout, Mapping, Refusal, Three};
 
 // An accepted dimension: its layout, its first index, and how it is dealt.
 #[derive(Clone, Copy)]
@@ -15,75 +16,31 @@ pub struct Dimension {
     pub dealing: Dealing,
 }
 
-// Or the number of the question that was answered no.
-#[derive(Clone, Copy)]
-enum Asked {
-    By(Dimension),
-    Refused(u32),
-}
-
 // Questions 1 to 5, 15 and 16 of one dimension.
-fn ask_dimension(m: Mapping, sizes: &[u8]) -> Asked
-    ensures { result ≡ asked_of m sizes.now }
+fn ask_dimension(m: Mapping, sizes: &[u8]) -> Result<Dimension, Refusal>
+    ensures { by_number result ≡ asked_of m sizes.now }
 {
-    let d = m.dealing;
-    let listed = list_fits(m, sizes);
-    match ask_mapping(m, sizes, listed) {
-        Mapped::By(l, lower) => Asked::By(Dimension {
-            layout: l,
-            lower,
-            dealing: d,
-        }),
-        Mapped::Refused(q) => Asked::Refused(q),
-    }
+    let accepted = ask_mapping(m, sizes, list_fits(m, sizes))?;
+    Ok(Dimension {
+        layout: accepted.layout,
+        lower: accepted.lower,
+        dealing: m.dealing,
+    })
 }
 
-fn refusal_of(x: Asked) -> u32
-    ensures { result ≡ refusal_in x }
-{
-    match x {
-        Asked::By(_) => 0,
-        Asked::Refused(q) => q,
-    }
-}
-
-#[derive(Clone, Copy)]
-pub struct Dimensions {
-    pub first: Dimension,
-    pub second: Dimension,
-    pub third: Dimension,
-}
-
-// An accepted grid, or the number of the question that was answered no.
-#[derive(Clone, Copy)]
-pub enum Gridded {
-    By(Dimensions),
-    Refused(u32),
-}
+pub type Dimensions = Three<Dimension>;
 
 // Each dimension's questions, and then 17 of the products.
-fn ask_dimensions(m: Mapping, n: Mapping, o: Mapping, b: &[u8], c: &[u8], d: &[u8]) -> Gridded
-    ensures { result ≡ three_of m n o b.now c.now d.now }
+fn ask_dimensions(m: Three<Mapping>, sizes: Three<&[u8]>) -> Result<Dimensions, Refusal>
+    ensures { by_number result ≡ three_of m.first m.second m.third sizes.entry.first.now sizes.entry.second.now sizes.entry.third.now }
 {
-    let near = ask_dimension(m, b);
-    let Asked::By(first) = near else {
-        return Gridded::Refused(refusal_of(near));
-    };
-    let row = ask_dimension(n, c);
-    let Asked::By(second) = row else {
-        return Gridded::Refused(refusal_of(row));
-    };
-    let plane = ask_dimension(o, d);
-    let Asked::By(third) = plane else {
-        return Gridded::Refused(refusal_of(plane));
-    };
-    let k = first.layout;
-    let l = second.layout;
-    let z = third.layout;
-    if !products_fit(k, l, z) {
-        return Gridded::Refused(17);
+    let first = ask_dimension(m.first, sizes.first)?;
+    let second = ask_dimension(m.second, sizes.second)?;
+    let third = ask_dimension(m.third, sizes.third)?;
+    if !products_fit(first.layout, second.layout, third.layout) {
+        return Err(Refusal::Grid);
     }
-    Gridded::By(Dimensions {
+    Ok(Three {
         first,
         second,
         third,
@@ -91,17 +48,11 @@ fn ask_dimensions(m: Mapping, n: Mapping, o: Mapping, b: &[u8], c: &[u8], d: &[u
 }
 
 // 17 of the rank, and then all of these.
-pub fn ask_grid(g: Grid, b: &[u8], c: &[u8], d: &[u8]) -> Gridded
-    ensures { result ≡ gridded_of g b.now c.now d.now }
+pub fn ask_grid(g: Grid, sizes: Three<&[u8]>) -> Result<Dimensions, Refusal>
+    ensures { by_number result ≡ gridded_of g sizes.entry.first.now sizes.entry.second.now sizes.entry.third.now }
 {
-    let rank = g.rank;
-    if !within(1, 3, rank) {
-        return Gridded::Refused(17);
+    if !within(1, 3, g.rank) {
+        return Err(Refusal::Grid);
     }
-    let m = g.first;
-    let second = g.second;
-    let n = mapping_to(rank, 2, second);
-    let third = g.third;
-    let o = mapping_to(rank, 3, third);
-    ask_dimensions(m, n, o, b, c, d)
+    ask_dimensions(g.dimensions.up_to(g.rank, single()), sizes)
 }

@@ -7,47 +7,38 @@ ghost use Rattle.std.specs.Prelude.{◌≡◌};
 ghost use Rattle.model.specs.Calls.{ToldApart};
 ghost use Rattle.model.specs.Grids.{grid_with};
 ghost use Rattle.model.specs.GridCalls.{grid_ownership, grid_going_back};
-ghost use Rattle.mapping.specs.Answers.{owned_as, owned_refusals};
-ghost use Rattle.grid.specs.Answers.{indices_from, found_as, found_refusals};
+ghost use Rattle.model.specs.Refusals.{refusals};
+ghost use Rattle.mapping.specs.Answers.{owned_as};
+ghost use Rattle.grid.specs.Answers.{found_as};
 
-use dimensions::{Gridded, ask_grid};
-use elements::{Found, found_on, owned_on};
-use mapping::Owned;
-use model::Grid;
-use ranks::index_to;
+use dimensions::ask_grid;
+use elements::{Indices, found_on, owned_on};
+use mapping::parts::Home;
+use model::{Grid, Refusal, Three};
 
 mod dimensions;
 pub mod elements;
 pub mod ranks;
 
 // Grid processor and local address of the element of three declared indices.
-pub fn ownership(
-    g: Grid,
-    b: &[u8],
-    c: &[u8],
-    d: &[u8],
-    first: i64,
-    second: i64,
-    third: i64,
-) -> Owned
-    ensures result_value { owned_as result ≡ grid_ownership (grid_with g b.now c.now d.now) (indices_from first second third) }
-    ensures told_apart { ToldApart (owned_refusals result) }
+pub fn ownership(g: Grid, sizes: Three<&[u8]>, indices: Three<i64>) -> Result<Home, Refusal>
+    ensures result_value { owned_as result ≡ grid_ownership (grid_with g sizes.entry.first.now sizes.entry.second.now sizes.entry.third.now) indices }
+    ensures told_apart { ToldApart (refusals result) }
 {
-    let j = index_to(g.rank, 2, second);
-    let k = index_to(g.rank, 3, third);
-    match ask_grid(g, b, c, d) {
-        Gridded::By(x) => owned_on(x, b, c, d, first, j, k),
-        Gridded::Refused(e) => Owned::Refused(e),
-    }
+    let x = ask_grid(g, sizes)?;
+    owned_on(x, sizes, indices.up_to(g.rank, 0))
 }
 
 // The declared indices of the element at an address of a grid processor.
-pub fn going_back(g: Grid, b: &[u8], c: &[u8], d: &[u8], processor: i64, address: i64) -> Found
-    ensures result_value { found_as result ≡ grid_going_back (grid_with g b.now c.now d.now) processor address }
-    ensures told_apart { ToldApart (found_refusals result) }
+pub fn going_back(
+    g: Grid,
+    sizes: Three<&[u8]>,
+    processor: i64,
+    address: i64,
+) -> Result<Indices, Refusal>
+    ensures result_value { found_as result ≡ grid_going_back (grid_with g sizes.entry.first.now sizes.entry.second.now sizes.entry.third.now) processor address }
+    ensures told_apart { ToldApart (refusals result) }
 {
-    match ask_grid(g, b, c, d) {
-        Gridded::By(x) => found_on(x, b, c, d, processor, address),
-        Gridded::Refused(e) => Found::Refused(e),
-    }
+    let x = ask_grid(g, sizes)?;
+    found_on(x, sizes, processor, address)
 }

@@ -7,6 +7,7 @@ use native.Mathlib.Omega.{arith}
 use lib.ListN.{length, length-map, take, drop, length-drop}
 use lib.Seq.{length-take-le, take_at, take-add, take-take, drop-drop}
 use borrow.Author.Tests.{lt-ltb}
+use Rattle.std.specs.Prelude.{Some}
 use Rattle.numbers.specs.Words.{words_of}
 use Rattle.numbers.proofs.WordLaws.{words-length}
 use Rattle.model.specs.Filling.{on_base, Filled, fill_by}
@@ -17,7 +18,8 @@ use Rattle.model.proofs.ByteStores.{AllFit, stores-length}
 use Rattle.model.proofs.GridAccepted.{second-yes}
 use Rattle.grid_fill.specs.Entries.{AllLow}
 use Rattle.grid_fill.specs.declared.rows.RowPlan.{RowPlan}
-use Rattle.grid_fill.specs.declared.rows.Stand.{Stand}
+use Rattle.model.specs.declared.three.Three.{Three}
+use Rattle.model.specs.declared.Position.{Position}
 use Rattle.grid_fill.specs.declared.turns.Whole.{Whole}
 use Rattle.grid_fill.specs.declared.turns.Turn.{Turn}
 use Rattle.grid_fill.specs.Rows.{entering_at, PlanOf, On, Standing, place_of, grid_walk, Goes, Stored, Turned}
@@ -38,10 +40,10 @@ entering-in : (x : GridSection) (p : RowPlan) (o : PlanOf p x) (u v up : ℕ) �
     → place_of x (entering_at p u v up)
     ≡ paired (axis_of (sections_of x).first).count p.enter.0 (paired (axis_of (sections_of x).second).count u v)
 entering-in x p o u v up h l =
-    let n = counts (sections_of x).second (second-yes x o.accepted) p.second o.second in
-    rw (lt-ltb u p.second.section.count (omega arith), lt-ltb v (axis_of (sections_of x).third).count l)
+    let n = counts (sections_of x).second (second-yes x o.accepted) p.shares.second o.second in
+    rw (lt-ltb u p.shares.second.section.count (omega arith), lt-ltb v (axis_of (sections_of x).third).count l)
 
-module _ (x : GridSection) (p : RowPlan) (o : PlanOf p x) (at : Stand) (st : Standing x p at) (v : at.third.0 < (axis_of (sections_of x).third).count)
+module _ (x : GridSection) (p : RowPlan) (o : PlanOf p x) (at : Three Position) (st : Standing x p at) (v : at.third.0 < (axis_of (sections_of x).third).count)
     (enters : at.first.0 ≡ p.enter.0) (up : ℕ) (in-planes : up ≡ (axis_of (sections_of x).third).next at.third.0) where
   abbrev first : Axis
   first = axis_of (sections_of x).first
@@ -56,11 +58,11 @@ module _ (x : GridSection) (p : RowPlan) (o : PlanOf p x) (at : Stand) (st : Sta
   abbrev row_after : ℕ → ℕ
   row_after j = after (walk_on second) at.second.0 j
 
-  enter-on : On first p.first.processor p.enter.0
-  enter-on = subst (On first p.first.processor) enters (st.first v)
+  enter-on : On first p.shares.first.processor p.enter.0
+  enter-on = subst (On first p.shares.first.processor) enters (st.first v)
 
   module _ (bs : List ℕ) (n : ℕ) (w : Whole) (known : Stored x p bs n w) (quota count : ℕ) (fits : count * w.tries + 2 ≤ quota) (room : n + count * w.entries ≤ length bs / 4)
-      (base : ℕ → ℕ) (on : (j : ℕ) → j < count → On (axis_of (sections_of x).second) p.second.processor (after (walk_on (axis_of (sections_of x).second)) at.second.0 j))
+      (base : ℕ → ℕ) (on : (j : ℕ) → j < count → On (axis_of (sections_of x).second) p.shares.second.processor (after (walk_on (axis_of (sections_of x).second)) at.second.0 j))
       (is : (j : ℕ) (h : j < count) → base j ≡ base_of x p o (after (walk_on (axis_of (sections_of x).second)) at.second.0 j) at.third.0 (on j h) (st.third v)) where
     abbrev list_after : ℕ → List ℕ
     list_after j = put_rows base w bs n j
@@ -140,7 +142,7 @@ module _ (x : GridSection) (p : RowPlan) (o : PlanOf p x) (at : Stand) (st : Sta
       row_here =
           let there = after-row x p o (row_after j) at.third.0 (on j h) (st.third v) up in-planes in
           let after-it : second.next (row_after j) ≡ row_after (suc j) = sym (after_next (walk_on second) at.second.0 j) in
-          let to : next_from first (rows second third) p.first.processor (paired second.count (row_after j) at.third.0) first.count
+          let to : next_from first (rows second third) p.shares.first.processor (paired second.count (row_after j) at.third.0) first.count
           ≡ place_of x (entering_at p (row_after (suc j)) at.third.0 up) = there ∙ ap (λ (u : ℕ). place_of x (entering_at p u at.third.0 up)) after-it in
           let from = sym (entering-in x p o (row_after j) at.third.0 up (on j h).0 v) in
           subst (λ (t : ℕ). Goes (grid_walk x) t (quota - j * w.tries) (drop m ws) E w.tries (place_of x (entering_at p (row_after (suc j)) at.third.0 up)) (drop m ws')) from
@@ -189,7 +191,7 @@ module _ (x : GridSection) (p : RowPlan) (o : PlanOf p x) (at : Stand) (st : Sta
     copied (suc j) h = one_more j h (copied j (omega arith))
 
     -- the turn that so many copies make
-    pub after-turned : 0 < count → 0 < w.entries → (t : Turn) → t.stand ≡ entering_at p (row_after count) at.third.0 up → t.whole ≡ w
+    pub after-turned : 0 < count → 0 < w.entries → (t : Turn) → t.stand ≡ entering_at p (row_after count) at.third.0 up → t.whole ≡ Some w
         → t.entries ≡ count * w.entries → t.tries ≡ count * w.tries → Turned x p at quota n bs (list_after count) t
     after-turned some entries t stand whole e c = go count refl
       where
@@ -210,5 +212,5 @@ module _ (x : GridSection) (p : RowPlan) (o : PlanOf p x) (at : Stand) (st : Sta
               goes = rw (e, c, stand) a.goes;
               stored = rw e a.put;
               before = a.before;
-              known = λ z. rw (e, whole) a.stored;
+              known = rw (e, whole) a.stored;
             }

@@ -1,18 +1,19 @@
 -- What the public fill answers, from the answer to its questions.
 use Prim.Native.Nat.{ℕ, ◌/◌, ◌<◌}
 use mathlib.Core.Path.{◌≡◌, refl, sym, ap, ◌∙◌, subst}
-use mathlib.Core.Bool.{Bool, true, false, cond, ◌&&◌, ◌||◌}
+use mathlib.Core.Bool.{true, cond, ◌&&◌, ◌||◌}
 use mathlib.Core.List.{List, [], ◌∷◌, ◌++◌}
 use mathlib.Core.Logic.{inl, inr}
 use native.Mathlib.Nat.{mod-lt}
 use native.Mathlib.Omega.{arith}
-use borrow.Author.Tests.{ltb-true, eqb-true, eqb-false, ne_eqb}
+use borrow.Author.Tests.{ltb-true, eqb-true, ne_eqb}
 use lib.Dec.{ltb, eqb}
 use lib.IntN.{ℤ, pos}
 use lib.Signed.{le_z}
 use mir.Syntax.{w64}
 use mir.Val.{SFits}
 use mir.ValLaws.{to_z-of_z}
+use Rattle.std.specs.Prelude.{Result, Ok, Err}
 use Rattle.numbers.specs.Words.{words_of}
 use Rattle.numbers.proofs.Signed.{back}
 use Rattle.numbers.proofs.Tests.{both_true, either_true}
@@ -24,32 +25,34 @@ use Rattle.model.specs.ByteFills.{in_words, store_entries, bytes_by}
 use Rattle.model.specs.Axes.{Axis, axis_of}
 use Rattle.model.specs.Grids.{GridSection, sections_of, grid_axis, of_grid_section, of_grid_processor}
 use Rattle.model.specs.GridCalls.{of_grid_place, is_place_on, GridFill, of_grid_fill, grid_request_of, grid_fill, GridByteFill, grid_bytes_after}
+use Rattle.model.specs.declared.refusals.Refusal.{Refusal}
+use Rattle.model.specs.Refusals.{number}
+use Rattle.model.proofs.RefusalLaws.{told-apart}
 use Rattle.model.proofs.QuestionLaws.{Natural, all_yes, both_yes, between_is, below-is}
 use Rattle.model.proofs.PairLaws.{second_lt}
 use Rattle.model.proofs.GridAccepted.{first-yes, second-yes}
 use Rattle.section.specs.Strides.{strided_of}
 use Rattle.section.proofs.StridedSections.{bounded}
 use Rattle.walk.specs.declared.moves.Report.{Report}
-use Rattle.fill.specs.declared.Filled.TheVariants as filled
 use Rattle.fill.specs.Answers.{report_of}
-use Rattle.grid_section.specs.declared.places.Shares.{Shares}
+use Rattle.grid.proofs.AskLaws.{says-yes, says-no}
+use Rattle.model.specs.declared.three.Three.{Three}
+use Rattle.section.specs.declared.shares.Share.{Share}
 use Rattle.grid_section.specs.Shares.{shares_of, positions_in, owned_on, is_place_by}
 use Rattle.grid_section.proofs.ShareLaws.{is-place-are}
 use Rattle.grid_fill.specs.declared.ready.Start.{Start}
-use Rattle.grid_fill.specs.declared.ready.Ready.{Ready}
-use Rattle.grid_fill.specs.declared.ready.Ready.TheVariants.{Go, Refused}
 use Rattle.grid_fill.specs.Rows.{grid_walk}
 use Rattle.grid_fill.specs.Plans.{SourceOf, PlaceIn}
 use Rattle.grid_fill.specs.Ready.{start_of, ready_of, Accepted, FillsFrom}
 use Rattle.grid_fill.specs.Answers.{GridFilledBytes}
 
 -- an answer about numbers that the machine reads back is one about the numbers
-pub of-parameters : (x : GridSection) (q t z : ℤ) {r : Ready} → SFits w64 q → SFits w64 t → SFits w64 z
+pub of-parameters : (x : GridSection) (q t z : ℤ) {r : Result Start ℕ} → SFits w64 q → SFits w64 t → SFits w64 z
     → r ≡ ready_of x (back w64 q) (back w64 t) (back w64 z) → r ≡ ready_of x q t z
 of-parameters x q t z f g h e = e ∙ (λ i. ready_of x (to_z-of_z w64 q f i) (to_z-of_z w64 t g i) (to_z-of_z w64 z h i))
 
 -- what a yes to question 10 says
-place-in : (s : Shares) (t : ℤ) → is_place_by s t ≡ true → PlaceIn s (nat t)
+place-in : (s : Three Share) (t : ℤ) → is_place_by s t ≡ true → PlaceIn s (nat t)
 place-in s t e =
     let n : ℕ = positions_in s in
     let inside = ltb (nat t) n && owned_on s (nat t) in
@@ -132,45 +135,35 @@ module _ (x : GridSection) (q t z : ℤ) where
     none : no-to ≡ 0
     start : s ≡ start_of (sections_of x) q t z
 
-  passed : (s : Start) → ready_of x q t z ≡ Go s → Passed s
+  passed : (s : Start) → ready_of x q t z ≡ Ok s → Passed s
   unfolding ready_of no-to
-  passed s e = go (eqb no-to 0) refl
-    where
-      go : (b : Bool) → eqb no-to 0 ≡ b → Passed s
-      go true p = record { none = eqb-true no-to 0 p; start = let g = rw p at e in cc }
-      go false p = absurd (let f = rw p at e in let n : ◌≡◌ {A = ℕ} 0 1 = cc in omega arith)
+  passed s e = let y = says-yes no-to (start_of (sections_of x) q t z) s e in record { none = y.0; start = y.1 }
 
   -- a fill that passed is one of an accepted section
-  pub taken : (s : Start) → ready_of x q t z ≡ Go s → Accepted s
+  pub taken : (s : Start) → ready_of x q t z ≡ Ok s → Accepted s
   taken s e = let p = passed s e in subst Accepted (sym p.start) (accepted p.none)
 
   record Stopped (n : ℕ) : Type 0 where
     first : no-to ≡ n
     some : n ≡ 0 → ⊥
 
-  refused : (n : ℕ) → ready_of x q t z ≡ Refused n → Stopped n
+  refused : (n : ℕ) → ready_of x q t z ≡ Err n → Stopped n
   unfolding ready_of no-to
-  refused n e = go (eqb no-to 0) refl
-    where
-      go : (b : Bool) → eqb no-to 0 ≡ b → Stopped n
-      go true p = absurd (let f = rw p at e in let g : ◌≡◌ {A = ℕ} 0 1 = cc in omega arith)
-      go false p =
-          let f : no-to ≡ n = let g = rw p at e in cc in
-          record { first = f; some = λ g. eqb-false no-to 0 p (f ∙ g) }
+  refused n e = let y = says-no no-to (start_of (sections_of x) q t z) n e in record { first = y.0; some = y.1 }
 
   -- ---- the fill that is asked for, in each case
 
   abbrev outcome : ℕ → Filled → List ℕ → Outcome
   outcome n f l = record { refusal = n; filled = cond (eqb n 0) f (stopped 0 l) }
 
-  runs : (s : Start) → ready_of x q t z ≡ Go s → (l : List ℕ)
+  runs : (s : Start) → ready_of x q t z ≡ Ok s → (l : List ℕ)
       → record { refusal = 0; filled = fill_by (grid_walk x) s.place.0 s.quota l } ≡ grid_fill (call l)
   unfolding grid_fill answer grid_request_of no-to
   runs s e l =
       let p = passed s e in
       λ i. outcome (sym p.none i) (fill_by (grid_walk x) (p.start i).place.0 (p.start i).quota l) l
 
-  stays : (n : ℕ) → ready_of x q t z ≡ Refused n → (l : List ℕ) → record { refusal = n; filled = stopped 0 l } ≡ grid_fill (call l)
+  stays : (n : ℕ) → ready_of x q t z ≡ Err n → (l : List ℕ) → record { refusal = n; filled = stopped 0 l } ≡ grid_fill (call l)
   unfolding grid_fill answer grid_request_of no-to
   stays n e l = let s = refused n e in rw (s.first, ne_eqb n 0 s.some)
 
@@ -180,8 +173,8 @@ module _ (x : GridSection) (q t z : ℤ) where
   abbrev stored : List ℕ → Outcome → List ℕ
   stored bs o = bytes_by bs o.filled
 
-  pub bytes-done : (s : Start) (bs bs' : List ℕ) (r : Report) → ready_of x q t z ≡ Go s → FillsFrom s bs bs' r
-      → GridFilledBytes (bytes_call bs) bs' (filled.Done r)
+  pub bytes-done : (s : Start) (bs bs' : List ℕ) (r : Report) → ready_of x q t z ≡ Ok s → FillsFrom s bs bs' r
+      → GridFilledBytes (bytes_call bs) bs' (Ok r)
   unfolding in_words grid_bytes_after
   bytes-done s bs bs' r e h =
       let p = passed s e in
@@ -193,6 +186,6 @@ module _ (x : GridSection) (q t z : ℤ) where
       )
 
   -- a refused fill stores nothing
-  pub bytes-refused : (n : ℕ) (bs : List ℕ) → ready_of x q t z ≡ Refused n → GridFilledBytes (bytes_call bs) bs (filled.Refused n)
+  pub bytes-refused : (r : Refusal) (bs : List ℕ) → ready_of x q t z ≡ Err (number r) → GridFilledBytes (bytes_call bs) bs (Err r)
   unfolding in_words grid_bytes_after store_entries
-  bytes-refused n bs e = let o = stays n e (words_of 4 bs) in (ap report_of o, ap (stored bs) o, (omega (arith, (refused n e).some), tt))
+  bytes-refused r bs e = let o = stays (number r) e (words_of 4 bs) in (ap report_of o, ap (stored bs) o, told-apart {A = Report} (Err r))

@@ -9,6 +9,7 @@ use lib.Dec.{eqb}
 use lib.ListN.{length, take, drop, take-append-drop, drop_of_length-le}
 use lib.Seq.{length-take-le, take-add}
 use borrow.Author.Tests.{eq-eqb, lt-ltb, le-ltb}
+use Rattle.std.specs.Prelude.{Option, None}
 use Rattle.numbers.specs.Words.{words_of}
 use Rattle.numbers.proofs.WordLaws.{words-length}
 use Rattle.model.specs.Filling.{Filled, stopped, fill_by}
@@ -20,7 +21,8 @@ use Rattle.model.proofs.GridAccepted.{first-yes, second-yes, third-yes}
 use Rattle.walk.specs.declared.moves.Report.{Report}
 use Rattle.walk.specs.Driving.{ByteFilled}
 use Rattle.grid_fill.specs.declared.rows.RowPlan.{RowPlan}
-use Rattle.grid_fill.specs.declared.rows.Stand.{Stand}
+use Rattle.model.specs.declared.three.Three.{Three}
+use Rattle.model.specs.declared.Position.{Position}
 use Rattle.grid_fill.specs.declared.turns.Whole.{Whole}
 use Rattle.grid_fill.specs.declared.turns.Turn.{Turn}
 use Rattle.grid_fill.specs.Rows.{PlanOf, Standing, place_of, grid_walk, Goes, Known, Turned}
@@ -30,19 +32,19 @@ use Rattle.grid_fill.proofs.RowPlaces.{counts}
 use Rattle.grid_fill.proofs.RowTurns.{goes_none, goes-both}
 
 -- what the loop keeps, of a section
-pub record Filling (x : GridSection) (p : RowPlan) (start : Stand) (quota : ℕ) (bs₀ bs : List ℕ) (at : Stand) (w : Whole) (paid n : ℕ) : Type 0 where
+pub record Filling (x : GridSection) (p : RowPlan) (start : Three Position) (quota : ℕ) (bs₀ bs : List ℕ) (at : Three Position) (whole : Option Whole) (paid n : ℕ) : Type 0 where
   pub stands : Standing x p at
   pub goes : Goes (grid_walk x) (place_of x start) quota (words_of 4 bs₀) n paid (place_of x at) (words_of 4 bs)
   pub stored : bs ≡ store_entries bs₀ 0 (take n (words_of 4 bs))
-  pub known : Known x p bs n w
+  pub known : Known x p bs n whole
 
-module _ (x : GridSection) (p : RowPlan) (o : PlanOf p x) (start : Stand) (quota : ℕ) (bs₀ : List ℕ) where
-  pub filling-starts : Standing x p start → (w : Whole) → w.entries ≡ 0 → Filling x p start quota bs₀ bs₀ start w 0 0
+module _ (x : GridSection) (p : RowPlan) (o : PlanOf p x) (start : Three Position) (quota : ℕ) (bs₀ : List ℕ) where
+  pub filling-starts : Standing x p start → Filling x p start quota bs₀ bs₀ start None 0 0
   unfolding store_entries
-  filling-starts st w e =
-      record { stands = st; goes = goes_none (grid_walk x) (place_of x start) quota (words_of 4 bs₀); stored = refl; known = λ h. absurd (omega arith) }
+  filling-starts st =
+      record { stands = st; goes = goes_none (grid_walk x) (place_of x start) quota (words_of 4 bs₀); stored = refl; known = tt }
 
-  module _ {bs : List ℕ} {at : Stand} {w : Whole} {paid n : ℕ} (f : Filling x p start quota bs₀ bs at w paid n) where
+  module _ {bs : List ℕ} {at : Three Position} {whole : Option Whole} {paid n : ℕ} (f : Filling x p start quota bs₀ bs at whole paid n) where
     -- a turn more
     pub filling-turns : n ≤ length bs / 4 → (bs' : List ℕ) (t : Turn) → Turned x p at (quota - paid) n bs bs' t
         → Filling x p start quota bs₀ bs' t.stand t.whole (paid + t.tries) (n + t.entries)
@@ -82,9 +84,9 @@ module _ (x : GridSection) (p : RowPlan) (o : PlanOf p x) (start : Stand) (quota
         place_is : place_in p at ≡ place_of x at
         place_is =
             rw (
-              counts (sections_of x).first (first-yes x o.accepted) p.first o.first,
-              counts (sections_of x).second (second-yes x o.accepted) p.second o.second,
-              counts (sections_of x).third (third-yes x o.accepted) p.third o.third,
+              counts (sections_of x).first (first-yes x o.accepted) p.shares.first o.first,
+              counts (sections_of x).second (second-yes x o.accepted) p.shares.second o.second,
+              counts (sections_of x).third (third-yes x o.accepted) p.shares.third o.third,
             )
 
     module _ (r : Report) (en : r.entries ≡ n) (et : r.tries ≡ paid) (ep : r.place.0 ≡ place_in p at) where
@@ -92,10 +94,10 @@ module _ (x : GridSection) (p : RowPlan) (o : PlanOf p x) (start : Stand) (quota
       unfolding fill_by
       ends-full h = ends (rw (drop_of_length-le (words_of 4 bs) {i = n} (omega (arith, words-length 4 bs)))) r en et ep
 
-      pub ends-count : p.third.section.count ≤ at.third.0 → ByteFilled (fill_by (grid_walk x) (place_of x start) quota (words_of 4 bs₀)) bs₀ bs r
+      pub ends-count : p.shares.third.section.count ≤ at.third.0 → ByteFilled (fill_by (grid_walk x) (place_of x start) quota (words_of 4 bs₀)) bs₀ bs r
       unfolding grid_axis
       ends-count h =
-          let l : (axis_of (sections_of x).third).count ≤ at.third.0 = omega (arith, counts (sections_of x).third (third-yes x o.accepted) p.third o.third) in
+          let l : (axis_of (sections_of x).third).count ≤ at.third.0 = omega (arith, counts (sections_of x).third (third-yes x o.accepted) p.shares.third o.third) in
           ends (stops (grid_walk x) (place_of x at) (quota - paid) (drop n (words_of 4 bs)) (rw (le-ltb at.third.0 (axis_of (sections_of x).third).count l, eq-eqb (grid_axis (sections_of x)).count (grid_axis (sections_of x)).count refl))) r en et ep
 
       pub ends-quota : quota - paid < 3 → ByteFilled (fill_by (grid_walk x) (place_of x start) quota (words_of 4 bs₀)) bs₀ bs r

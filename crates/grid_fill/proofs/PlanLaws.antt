@@ -24,9 +24,10 @@ use Rattle.grid_section.specs.Shares.{positions_in}
 use Rattle.grid_section.proofs.LineLaws.{positions-low}
 use Rattle.grid_section.proofs.LineLaws as lines
 use Rattle.grid_fill.specs.declared.rows.RowPlan.{RowPlan}
-use Rattle.grid_fill.specs.declared.rows.Stand.{Stand}
+use Rattle.model.specs.declared.three.Three.{Three}
+use Rattle.model.specs.declared.Position.{Position}
 use Rattle.grid_fill.specs.Rows.{ShareIn, held_on, PlanOf, On, Standing, place_of}
-use Rattle.grid_fill.specs.Plans.{shares_from, PlaceIn}
+use Rattle.grid_fill.specs.Plans.{PlaceIn}
 use Rattle.grid_fill.proofs.RowPlaces.{counts}
 
 -- ---- one dimension
@@ -68,73 +69,73 @@ module _ (x : GridSection) (p : RowPlan) (o : PlanOf p x) where
   c = axis_of (sections_of x).third
 
   abbrev m : ℕ
-  m = p.first.section.count
+  m = p.shares.first.section.count
 
   abbrev n : ℕ
-  n = p.second.section.count
+  n = p.shares.second.section.count
 
   first_count : m ≡ a.count
-  first_count = counts (sections_of x).first (first-yes x o.accepted) p.first o.first
+  first_count = counts (sections_of x).first (first-yes x o.accepted) p.shares.first o.first
 
   second-count : n ≡ b.count
-  second-count = counts (sections_of x).second (second-yes x o.accepted) p.second o.second
+  second-count = counts (sections_of x).second (second-yes x o.accepted) p.shares.second o.second
 
-  third-count : p.third.section.count ≡ c.count
-  third-count = counts (sections_of x).third (third-yes x o.accepted) p.third o.third
+  third-count : p.shares.third.section.count ≡ c.count
+  third-count = counts (sections_of x).third (third-yes x o.accepted) p.shares.third o.third
 
   -- the counts and their product are in range
-  pub counts-low : (n ≤ 2147483647) × (p.third.section.count ≤ 2147483647) × (m * (n * p.third.section.count) ≤ 2147483647)
+  pub counts-low : (n ≤ 2147483647) × (p.shares.third.section.count ≤ 2147483647) × (m * (n * p.shares.third.section.count) ≤ 2147483647)
   unfolding strided_of
   counts-low =
-      let all : m * (n * p.third.section.count) ≡ a.count * (b.count * c.count) =
+      let all : m * (n * p.shares.third.section.count) ≡ a.count * (b.count * c.count) =
       λ i. first_count i * (second-count i * third-count i) in (
-        (fitted (sections_of x).second (second-yes x o.accepted) p.second o.second).bounded.count-high,
-        (fitted (sections_of x).third (third-yes x o.accepted) p.third o.third).bounded.count-high,
+        (fitted (sections_of x).second (second-yes x o.accepted) p.shares.second o.second).bounded.count-high,
+        (fitted (sections_of x).third (third-yes x o.accepted) p.shares.third o.third).bounded.count-high,
         omega (arith, all, positions-low (sections_of x) (lines.accepted x o.accepted)),
       )
 
-  module _ (t : ℕ) (here : PlaceIn (shares_from p) t) where
+  module _ (t : ℕ) (here : PlaceIn p.shares t) where
     -- of a position that the processor owns
-    pub stands-inside : t < positions_in (shares_from p)
-        → (let at : Stand = record { first = record { 0 = t % m }; second = record { 0 = t / m % n }; third = record { 0 = t / m / n } } in
+    pub stands-inside : t < positions_in p.shares
+        → (let at : Three Position = record { first = record { 0 = t % m }; second = record { 0 = t / m % n }; third = record { 0 = t / m / n } } in
         Standing x p at × (place_of x at ≡ t))
-    stands-inside h = as-counted m n p.third.section.count first_count second-count third-count h (here.owned h)
+    stands-inside h = as-counted m n p.shares.third.section.count first_count second-count third-count h (here.owned h)
       where
         go : t < a.count * (b.count * c.count)
-            → (owned_by p.first (t % a.count) && owned_by p.second (t / a.count % b.count) && owned_by p.third (t / a.count / b.count)) ≡ true
-            → (let at : Stand = record { first = record { 0 = t % a.count }; second = record { 0 = t / a.count % b.count }; third = record { 0 = t / a.count / b.count } } in
+            → (owned_by p.shares.first (t % a.count) && owned_by p.shares.second (t / a.count % b.count) && owned_by p.shares.third (t / a.count / b.count)) ≡ true
+            → (let at : Three Position = record { first = record { 0 = t % a.count }; second = record { 0 = t / a.count % b.count }; third = record { 0 = t / a.count / b.count } } in
             Standing x p at × (place_of x at ≡ t))
         go l e =
             let row : t / a.count < b.count * c.count = second_lt a.count (b.count * c.count) t l in
             let plane : t / a.count / b.count < c.count = second_lt b.count c.count (t / a.count) row in
-            let front = both_true (owned_by p.first (t % a.count) && owned_by p.second (t / a.count % b.count)) (owned_by p.third (t / a.count / b.count)) e in
-            let both = both_true (owned_by p.first (t % a.count)) (owned_by p.second (t / a.count % b.count)) front.0 in (
+            let front = both_true (owned_by p.shares.first (t % a.count) && owned_by p.shares.second (t / a.count % b.count)) (owned_by p.shares.third (t / a.count / b.count)) e in
+            let both = both_true (owned_by p.shares.first (t % a.count)) (owned_by p.shares.second (t / a.count % b.count)) front.0 in (
               record {
                 within = omega (arith, plane);
-                first = λ _. owned-on (sections_of x).first (first-yes x o.accepted) p.first o.first _ (first-lt a.count (b.count * c.count) t l) both.0;
-                second = λ _. owned-on (sections_of x).second (second-yes x o.accepted) p.second o.second _ (first-lt b.count c.count (t / a.count) row) both.1;
-                third = λ _. owned-on (sections_of x).third (third-yes x o.accepted) p.third o.third _ plane front.1;
+                first = λ _. owned-on (sections_of x).first (first-yes x o.accepted) p.shares.first o.first _ (first-lt a.count (b.count * c.count) t l) both.0;
+                second = λ _. owned-on (sections_of x).second (second-yes x o.accepted) p.shares.second o.second _ (first-lt b.count c.count (t / a.count) row) both.1;
+                third = λ _. owned-on (sections_of x).third (third-yes x o.accepted) p.shares.third o.third _ plane front.1;
               },
               rw (lt-ltb _ _ plane) (ap (paired a.count (t % a.count)) (pair_of b.count (t / a.count)) ∙ pair_of a.count t),
             )
 
         as-counted : (i j k : ℕ) → i ≡ a.count → j ≡ b.count → k ≡ c.count → t < i * (j * k)
-            → (owned_by p.first (t % i) && owned_by p.second (t / i % j) && owned_by p.third (t / i / j)) ≡ true
-            → (let at : Stand = record { first = record { 0 = t % i }; second = record { 0 = t / i % j }; third = record { 0 = t / i / j } } in
+            → (owned_by p.shares.first (t % i) && owned_by p.shares.second (t / i % j) && owned_by p.shares.third (t / i / j)) ≡ true
+            → (let at : Three Position = record { first = record { 0 = t % i }; second = record { 0 = t / i % j }; third = record { 0 = t / i / j } } in
             Standing x p at × (place_of x at ≡ t))
         as-counted i j k e f g l own = rw (e, f) (go (rw (e, f, g) at l) (rw (e, f) at own))
 
     -- of the count
-    pub stands-end : positions_in (shares_from p) ≤ t
-        → (let at : Stand = record { first = p.enter; second = p.row; third = record { 0 = p.third.section.count } } in
+    pub stands-end : positions_in p.shares ≤ t
+        → (let at : Three Position = record { first = p.enter; second = p.row; third = record { 0 = p.shares.third.section.count } } in
         Standing x p at × (place_of x at ≡ t))
-    stands-end h = as-counted p.third.section.count third-count
+    stands-end h = as-counted p.shares.third.section.count third-count
       where
         end : a.count * (b.count * c.count) ≡ t
         end = (λ i. sym first_count i * (sym second-count i * sym third-count i)) ∙ omega (arith, here.within, h)
 
         as-counted : (k : ℕ) → k ≡ c.count
-            → (let at : Stand = record { first = p.enter; second = p.row; third = record { 0 = k } } in
+            → (let at : Three Position = record { first = p.enter; second = p.row; third = record { 0 = k } } in
             Standing x p at × (place_of x at ≡ t))
         as-counted k e =
             rw e (

@@ -23,7 +23,8 @@ use Rattle.walk.specs.declared.moves.Report.{Report}
 use Rattle.walk.specs.Driving.{ByteFilled}
 use Rattle.fill.specs.Ready.{FillsBytesFrom}
 use Rattle.grid_fill.specs.declared.rows.RowPlan.{RowPlan}
-use Rattle.grid_fill.specs.declared.rows.Stand.{Stand}
+use Rattle.model.specs.declared.three.Three.{Three}
+use Rattle.model.specs.declared.Position.{Position}
 use Rattle.grid_fill.specs.declared.steps.Step.{Step}
 use Rattle.grid_fill.specs.Steps.{from_place, Stepped}
 use Rattle.grid_fill.specs.Rows.{PlanOf, On, Standing}
@@ -31,8 +32,8 @@ use Rattle.grid_fill.specs.Turns.{base_at}
 use Rattle.grid_fill.proofs.BaseFills.{after, wrote_at, place_after, after-keeps}
 use Rattle.grid_fill.proofs.RowPlaces.{second_walks, next_le, next-on, base_of}
 
-module _ (x : GridSection) (p : RowPlan) (o : PlanOf p x) (at : Stand) (st : Standing x p at) (v : at.third.0 < (axis_of (sections_of x).third).count)
-    (plane : Step) (in-plane : Stepped p.third at.third.0 plane) (bs bs' : List ℕ) (r : Report) (f : FillsBytesFrom (from_place p.second at.second.0 1000000) bs bs' r) where
+module _ (x : GridSection) (p : RowPlan) (o : PlanOf p x) (at : Three Position) (st : Standing x p at) (v : at.third.0 < (axis_of (sections_of x).third).count)
+    (plane : Step) (in-plane : Stepped p.shares.third at.third.0 plane) (bs bs' : List ℕ) (r : Report) (f : FillsBytesFrom (from_place p.shares.second at.second.0 1000000) bs bs' r) where
   abbrev second : Axis
   second = axis_of (sections_of x).second
 
@@ -63,7 +64,7 @@ module _ (x : GridSection) (p : RowPlan) (o : PlanOf p x) (at : Stand) (st : Sta
       rw gave.entries
       (fill-some (walk_on second) at.second.0 1000000 (words_of 4 bs) (omega (arith, words-length 4 bs)) (λ e. omega (arith, (st.second v).0)) (lit≤ tt))
 
-  pub row_on : (j : ℕ) → j < r.entries → On second p.second.processor (row_after j)
+  pub row_on : (j : ℕ) → j < r.entries → On second p.shares.second.processor (row_after j)
   row_on j h =
       let k : j < g.entries = omega (arith, gave.entries) in
       let own = after-keeps (walk_on second) Owned on (words_of 4 bs) at.second.0 1000000 j (omega arith) (omega (arith, (st.second v).0), λ l. (st.second v).1) in
@@ -71,13 +72,13 @@ module _ (x : GridSection) (p : RowPlan) (o : PlanOf p x) (at : Stand) (st : Sta
       (l, own.1 l)
     where
       Owned : ℕ → Type 0
-      Owned t = (t ≤ second.count) × (t < second.count → owns_on second p.second.processor t ≡ true)
+      Owned t = (t ≤ second.count) × (t < second.count → owns_on second p.shares.second.processor t ≡ true)
 
       on : (t : ℕ) → (t ≡ second.count → ⊥) → Owned t → Owned (second.next t)
       on t other own =
           let k : t < second.count = omega (arith, own.0) in
-          let here : On second p.second.processor t = (k, own.1 k) in
-          (next_le second (second_walks x p o) p.second.processor t here, λ l. (next-on second (second_walks x p o) p.second.processor t here l).1)
+          let here : On second p.shares.second.processor t = (k, own.1 k) in
+          (next_le second (second_walks x p o) p.shares.second.processor t here, λ l. (next-on second (second_walks x p o) p.shares.second.processor t here l).1)
 
   pub row-base : (j : ℕ) (h : j < r.entries)
       → base_at p.elements p.rows plane.address.0 bs' j ≡ base_of x p o (row_after j) at.third.0 (row_on j h) (st.third v)

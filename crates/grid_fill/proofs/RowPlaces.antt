@@ -137,33 +137,33 @@ module _ (x : GridSection) (p : RowPlan) (o : PlanOf p x) where
   pub third-walks : WalksOn (axis_of (sections_of x).third)
   third-walks = walks-on (sections_of x).third (third-yes x o.accepted)
 
-  module _ (u v : ℕ) (hu : On (axis_of (sections_of x).second) p.second.processor u) (hv : On (axis_of (sections_of x).third) p.third.processor v) where
+  module _ (u v : ℕ) (hu : On (axis_of (sections_of x).second) p.shares.second.processor u) (hv : On (axis_of (sections_of x).third) p.shares.third.processor v) where
     -- how high the row lies
     abbrev pub base_of : ℕ
     base_of = p.elements * ((walk_on (axis_of (sections_of x).second)).address u + p.rows * (walk_on (axis_of (sections_of x).third)).address v)
 
-    pub in_row : InRow first (rows second third) p.first.processor (paired second.count u v) base_of
+    pub in_row : InRow first (rows second third) p.shares.first.processor (paired second.count u v) base_of
     in_row = record {
       row = pair_lt second.count third.count u v hu.0 hv.0;
       address = λ t h own.
           row-address first second third (section-sound (sections_of x).first (first-yes x o.accepted))
           (section-sound (sections_of x).second (second-yes x o.accepted))
           (dealt (sections_of x).first (first-yes x o.accepted)) (dealt (sections_of x).second (second-yes x o.accepted))
-          p.first.processor p.second.processor t u v (h, own) hu hv.0
+          p.shares.first.processor p.shares.second.processor t u v (h, own) hu hv.0
           ∙ rw (← o.elements, ← o.rows);
     }
 
     -- the place after its end
     pub after-row : (next : ℕ) → next ≡ third.next v
-        → next_from first (rows second third) p.first.processor (paired second.count u v) first.count
+        → next_from first (rows second third) p.shares.first.processor (paired second.count u v) first.count
         ≡ place_of x (entering_at p (second.next u) v next)
     after-row next e =
         row-after first second third (section-sound (sections_of x).first (first-yes x o.accepted))
         (section-sound (sections_of x).second (second-yes x o.accepted))
         (dealt (sections_of x).first (first-yes x o.accepted)) (dealt (sections_of x).second (second-yes x o.accepted))
-        second_walks third-walks p.first.processor p.second.processor p.third.processor u v
-        (coordinate (sections_of x).second (second-yes x o.accepted) p.second o.second) hu hv
-        ∙ rw (e, counts (sections_of x).second (second-yes x o.accepted) p.second o.second, ← o.enter, ← o.row)
+        second_walks third-walks p.shares.first.processor p.shares.second.processor p.shares.third.processor u v
+        (coordinate (sections_of x).second (second-yes x o.accepted) p.shares.second o.second) hu hv
+        ∙ rw (e, counts (sections_of x).second (second-yes x o.accepted) p.shares.second o.second, ← o.enter, ← o.row)
         (go (ltb (second.next u) second.count))
       where
         go : (b : Bool)
@@ -174,9 +174,9 @@ module _ (x : GridSection) (p : RowPlan) (o : PlanOf p x) where
         go false = refl
 
     -- where it is one
-    pub after-stands : (t next : ℕ) → On first p.first.processor t → next ≡ third.next v → Standing x p (entering_at p (second.next u) v next)
+    pub after-stands : (t next : ℕ) → On first p.shares.first.processor t → next ≡ third.next v → Standing x p (entering_at p (second.next u) v next)
     after-stands t next ht e =
-        let n = counts (sections_of x).second (second-yes x o.accepted) p.second o.second in
+        let n = counts (sections_of x).second (second-yes x o.accepted) p.shares.second o.second in
         let is : entering_at p (second.next u) v next
         ≡ cond (ltb (second.next u) second.count) (record { first = p.enter; second = record { 0 = second.next u }; third = record { 0 = v } })
         (record { first = p.enter; second = p.row; third = record { 0 = third.next v } }) =
@@ -184,20 +184,20 @@ module _ (x : GridSection) (p : RowPlan) (o : PlanOf p x) where
         (record { first = p.enter; second = p.row; third = record { 0 = e i } }) in
         subst (Standing x p) (sym is) (go (ltb (second.next u) second.count) refl)
       where
-        enters : On first p.first.processor p.enter.0
-        enters = rw o.enter (first_on_lem first p.first.processor t ht)
+        enters : On first p.shares.first.processor p.enter.0
+        enters = rw o.enter (first_on_lem first p.shares.first.processor t ht)
 
         go : (b : Bool) → ltb (second.next u) second.count ≡ b
             → Standing x p (cond b (record { first = p.enter; second = record { 0 = second.next u }; third = record { 0 = v } }) (record { first = p.enter; second = p.row; third = record { 0 = third.next v } }))
         go true i = record {
           within = omega (arith, hv.0);
           first = λ h. enters;
-          second = λ h. next-on second second_walks p.second.processor u hu (ltb-true _ _ i);
+          second = λ h. next-on second second_walks p.shares.second.processor u hu (ltb-true _ _ i);
           third = λ h. hv;
         }
         go false i = record {
-          within = next_le third third-walks p.third.processor v hv;
+          within = next_le third third-walks p.shares.third.processor v hv;
           first = λ h. enters;
-          second = λ h. rw o.row (first_on_lem second p.second.processor u hu);
-          third = λ h. next-on third third-walks p.third.processor v hv h;
+          second = λ h. rw o.row (first_on_lem second p.shares.second.processor u hu);
+          third = λ h. next-on third third-walks p.shares.third.processor v hv h;
         }

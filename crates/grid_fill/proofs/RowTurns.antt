@@ -63,12 +63,12 @@ module _ (x : GridSection) (p : RowPlan) (o : PlanOf p x) where
   abbrev along : ℕ → ℕ → List ℕ → Filled
   along t quota l = fill_by (walk_on first) t quota l
 
-  module _ (u v : ℕ) (hu : On (axis_of (sections_of x).second) p.second.processor u) (hv : On (axis_of (sections_of x).third) p.third.processor v) where
+  module _ (u v : ℕ) (hu : On (axis_of (sections_of x).second) p.shares.second.processor u) (hv : On (axis_of (sections_of x).third) p.shares.third.processor v) where
     abbrev base : ℕ
     base = base_of x p o u v hu hv
 
     -- no address wraps
-    pub base-low : (t : ℕ) → On first p.first.processor t → base_of x p o u v hu hv < 2147483648
+    pub base-low : (t : ℕ) → On first p.shares.first.processor t → base_of x p o u v hu hv < 2147483648
     unfolding grid_axis rank
     base-low t ht =
         let r = in_row x p o u v hu hv in
@@ -83,18 +83,18 @@ module _ (x : GridSection) (p : RowPlan) (o : PlanOf p x) where
         )
 
     -- a row that was put from entry n on
-    pub row_goes : (t quota n : ℕ) (ws ws' : List ℕ) (g : Filled) → On first p.first.processor t
+    pub row_goes : (t quota n : ℕ) (ws ws' : List ℕ) (g : Filled) → On first p.shares.first.processor t
         → fill_by (on_base (base_of x p o u v hu hv) (walk_on first)) t quota (drop n ws) ≡ g
         → length (take g.entries g.list) ≡ g.entries → Put ws ws' n (take g.entries g.list)
         → Goes (grid_walk x) (paired first.count t (paired second.count u v)) quota (drop n ws) g.entries g.tries
-        (next_from first (rows second third) p.first.processor (paired second.count u v) g.place) (drop n ws')
+        (next_from first (rows second third) p.shares.first.processor (paired second.count u v) g.place) (drop n ws')
     unfolding grid_axis
     row_goes t quota n ws ws' g ht is long put =
-        let next : ℕ = next_from first (rows second third) p.first.processor (paired second.count u v) g.place in
+        let next : ℕ = next_from first (rows second third) p.shares.first.processor (paired second.count u v) g.place in
         let rest : drop g.entries (drop n ws) ≡ drop g.entries (drop n ws') = sym (rw long at put.rest) in
         let front : take g.entries g.list ≡ take g.entries (drop n ws') = sym (rw long at put.front) in
         fill-row (first_walks x p o) (in_row x p o u v hu hv) t quota (drop n ws) ht.0 ht.1
-        ∙ ap (λ (h : Filled). followed h (fill_by (grid_walk x) (next_from first (rows second third) p.first.processor (paired second.count u v) h.place) (quota - h.tries) (drop h.entries (drop n ws)))) is
+        ∙ ap (λ (h : Filled). followed h (fill_by (grid_walk x) (next_from first (rows second third) p.shares.first.processor (paired second.count u v) h.place) (quota - h.tries) (drop h.entries (drop n ws)))) is
         ∙ (λ i.
         let r : Filled = fill_by (grid_walk x) next (quota - g.tries) (rest i) in
         record { entries = g.entries + r.entries; tries = g.tries + r.tries; place = r.place; list = front i ++ r.list })

@@ -9,6 +9,8 @@ use lib.Dec.{eqb, ltb}
 use lib.ListN.{length, take, drop, length-drop}
 use lib.Seq.{length-take-le}
 use borrow.Author.Tests.{lt-ltb, ltb-true, ltb-false, eqb-true}
+use Rattle.std.specs.Prelude.{None}
+use Rattle.std.specs.Bool.{then_some}
 use Rattle.numbers.specs.Words.{words_of}
 use Rattle.numbers.proofs.WordLaws.{words-length}
 use Rattle.model.specs.Mappings.{Section}
@@ -30,7 +32,8 @@ use Rattle.section.proofs.ShareLaws.{owned-by}
 use Rattle.walk.specs.declared.moves.Report.{Report}
 use Rattle.walk.specs.Driving.{ByteFilled}
 use Rattle.grid_fill.specs.declared.rows.RowPlan.{RowPlan}
-use Rattle.grid_fill.specs.declared.rows.Stand.{Stand}
+use Rattle.model.specs.declared.three.Three.{Three}
+use Rattle.model.specs.declared.Position.{Position}
 use Rattle.grid_fill.specs.declared.turns.Turn.{Turn}
 use Rattle.grid_fill.specs.declared.steps.Step.{Step}
 use Rattle.grid_fill.specs.Steps.{Placed, Stepped}
@@ -55,27 +58,27 @@ placed x ok s i t on = record {
 
 -- ---- where a fill that goes on stands
 
-module _ {p : RowPlan} {at : Stand} {long quota n : ℕ} (b : Begun p at long quota n) where
+module _ {p : RowPlan} {at : Three Position} {long quota n : ℕ} (b : Begun p at long quota n) where
   -- of whatever section it is
   pub going-in : (x : GridSection) → PlanOf p x → at.third.0 < (axis_of (sections_of x).third).count
-  going-in x o = omega (arith, b.going, counts (sections_of x).third (third-yes x o.accepted) p.third o.third)
+  going-in x o = omega (arith, b.going, counts (sections_of x).third (third-yes x o.accepted) p.shares.third o.third)
 
   abbrev going : at.third.0 < (axis_of (sections_of b.source).third).count
   going = going-in b.source b.planned
 
-  pub first-placed : Placed p.first at.first.0
-  first-placed = placed (sections_of b.source).first (first-yes b.source b.planned.accepted) p.first b.planned.first at.first.0 (b.stands.first going)
+  pub first-placed : Placed p.shares.first at.first.0
+  first-placed = placed (sections_of b.source).first (first-yes b.source b.planned.accepted) p.shares.first b.planned.first at.first.0 (b.stands.first going)
 
-  pub second-placed : Placed p.second at.second.0
+  pub second-placed : Placed p.shares.second at.second.0
   second-placed =
-      placed (sections_of b.source).second (second-yes b.source b.planned.accepted) p.second b.planned.second at.second.0 (b.stands.second going)
+      placed (sections_of b.source).second (second-yes b.source b.planned.accepted) p.shares.second b.planned.second at.second.0 (b.stands.second going)
 
-  pub third-placed : Placed p.third at.third.0
-  third-placed = placed (sections_of b.source).third (third-yes b.source b.planned.accepted) p.third b.planned.third at.third.0 (b.stands.third going)
+  pub third-placed : Placed p.shares.third at.third.0
+  third-placed = placed (sections_of b.source).third (third-yes b.source b.planned.accepted) p.shares.third b.planned.third at.third.0 (b.stands.third going)
 
 -- ---- the turn
 
-module _ (x : GridSection) (p : RowPlan) (o : PlanOf p x) (at : Stand) (st : Standing x p at) (v : at.third.0 < (axis_of (sections_of x).third).count) where
+module _ (x : GridSection) (p : RowPlan) (o : PlanOf p x) (at : Three Position) (st : Standing x p at) (v : at.third.0 < (axis_of (sections_of x).third).count) where
   abbrev first : Axis
   first = axis_of (sections_of x).first
 
@@ -121,19 +124,19 @@ module _ (x : GridSection) (p : RowPlan) (o : PlanOf p x) (at : Stand) (st : Sta
         (bytes.next_le (sections_of x).first (first-yes x o.accepted)) at.first.0 quota xs (omega (arith, (st.first v).0)))
 
     -- its place is one of the processor, if it is no end
-    pub row_ends : row_fill.place < first.count → On first p.first.processor row_fill.place
+    pub row_ends : row_fill.place < first.count → On first p.shares.first.processor row_fill.place
     row_ends h = (h, kept.1 h)
       where
         Owned : ℕ → Type 0
-        Owned t = (t ≤ first.count) × (t < first.count → owns_on first p.first.processor t ≡ true)
+        Owned t = (t ≤ first.count) × (t < first.count → owns_on first p.shares.first.processor t ≡ true)
 
         kept : Owned row_fill.place
         kept =
             fill-keeps (walk_on first) Owned
             (λ t other own.
             let k : t < first.count = omega (arith, own.0) in
-            let on : On first p.first.processor t = (k, own.1 k) in
-            (next_le first (first_walks x p o) p.first.processor t on, λ l. (next-on first (first_walks x p o) p.first.processor t on l).1))
+            let on : On first p.shares.first.processor t = (k, own.1 k) in
+            (next_le first (first_walks x p o) p.shares.first.processor t on, λ l. (next-on first (first_walks x p o) p.shares.first.processor t on l).1))
             at.first.0 quota xs (omega (arith, (st.first v).0), λ l. (st.first v).1)
 
   module _ (quota n : ℕ) (least : 3 ≤ quota) (bs bs' part : List ℕ) (r : Report) (room : n < length bs / 4)
@@ -174,10 +177,10 @@ module _ (x : GridSection) (p : RowPlan) (o : PlanOf p x) (at : Stand) (st : Sta
 
     -- the place after the row's fill
     abbrev then : ℕ
-    then = next_from first (rows second third) p.first.processor row g.place
+    then = next_from first (rows second third) p.shares.first.processor row g.place
 
-    same_count : p.first.section.count ≡ first.count
-    same_count = counts (sections_of x).first (first-yes x o.accepted) p.first o.first
+    same_count : p.shares.first.section.count ≡ first.count
+    same_count = counts (sections_of x).first (first-yes x o.accepted) p.shares.first o.first
 
     goes : Goes (grid_walk x) (place_of x at) quota xs g.entries g.tries then (drop n (words_of 4 bs'))
     goes =
@@ -211,7 +214,7 @@ module _ (x : GridSection) (p : RowPlan) (o : PlanOf p x) (at : Stand) (st : Sta
       known = rw e.entries e.known;
     }
 
-    inside : g.place < first.count → Ends (record { stand = record { first = r.place; second = at.second; third = at.third }; whole = record { from = n; entries = 0; tries = r.tries; base = height_of }; entries = r.entries; tries = r.tries })
+    inside : g.place < first.count → Ends (record { stand = record { first = r.place; second = at.second; third = at.third }; whole = None; entries = r.entries; tries = r.tries })
     inside h = record {
       entries = gave.entries;
       tries = gave.tries;
@@ -222,17 +225,17 @@ module _ (x : GridSection) (p : RowPlan) (o : PlanOf p x) (at : Stand) (st : Sta
         second = st.second;
         third = st.third;
       };
-      known = λ l. absurd (omega arith);
+      known = tt;
     }
 
-    ended : g.place ≡ first.count → Ends (record { stand = entering_at p next at.third.0 up; whole = record { from = n; entries = cond (eqb at.first.0 p.enter.0) r.entries 0; tries = r.tries; base = height_of }; entries = r.entries; tries = r.tries })
+    ended : g.place ≡ first.count → Ends (record { stand = entering_at p next at.third.0 up; whole = then_some (eqb at.first.0 p.enter.0) (record { from = n; entries = r.entries; tries = r.tries; base = height_of }); entries = r.entries; tries = r.tries })
     ended e = record {
       entries = gave.entries;
       tries = gave.tries;
       place =
           (λ i. place_of x (entering_at p (in-plane i) at.third.0 up))
           ∙ sym (after-row x p o at.second.0 at.third.0 (st.second v) (st.third v) up in-planes)
-          ∙ ap (next_from first (rows second third) p.first.processor row) (sym e);
+          ∙ ap (next_from first (rows second third) p.shares.first.processor row) (sym e);
       stands =
           subst (λ (u : ℕ). Standing x p (entering_at p u at.third.0 up)) (sym in-plane)
           (after-stands x p o at.second.0 at.third.0 (st.second v) (st.third v) at.first.0 up (st.first v) in-planes);
@@ -240,25 +243,25 @@ module _ (x : GridSection) (p : RowPlan) (o : PlanOf p x) (at : Stand) (st : Sta
     }
       where
         go : (b : Bool) → eqb at.first.0 p.enter.0 ≡ b
-            → Known x p bs' (n + g.entries) (record { from = n; entries = cond b r.entries 0; tries = r.tries; base = height_of })
-        go true i l =
+            → Known x p bs' (n + g.entries) (then_some b (record { from = n; entries = r.entries; tries = r.tries; base = height_of }))
+        go true i =
             rw (gave.entries, gave.tries)
             (whole-stored x p o at.first.0 (eqb-true at.first.0 p.enter.0 i) quota n height_of xs bs' height-low (st.first v) e
             (omega (arith, (row_written quota xs).inside, (row_written quota xs).long))
             ((rw long at put.front) ∙ on-top-front height_of g (omega (arith, (row_written quota xs).inside, (row_written quota xs).long))))
-        go false i l = absurd (omega arith)
+        go false i = tt
 
     pub row-turned : Turned x p at quota n bs bs' turn
-    row-turned = go (ltb r.place.0 p.first.section.count) refl
+    row-turned = go (ltb r.place.0 p.shares.first.section.count) refl
       where
-        go : (b : Bool) → ltb r.place.0 p.first.section.count ≡ b
+        go : (b : Bool) → ltb r.place.0 p.shares.first.section.count ≡ b
             → Turned x p at quota n bs bs'
             (cond b
-            (record { stand = record { first = r.place; second = at.second; third = at.third }; whole = record { from = n; entries = 0; tries = r.tries; base = height_of }; entries = r.entries; tries = r.tries })
-            (record { stand = entering_at p next at.third.0 up; whole = record { from = n; entries = cond (eqb at.first.0 p.enter.0) r.entries 0; tries = r.tries; base = height_of }; entries = r.entries; tries = r.tries }))
-        go true i = turned_by _ (inside (omega (arith, ltb-true r.place.0 p.first.section.count i, gave.place, same_count)))
+            (record { stand = record { first = r.place; second = at.second; third = at.third }; whole = None; entries = r.entries; tries = r.tries })
+            (record { stand = entering_at p next at.third.0 up; whole = then_some (eqb at.first.0 p.enter.0) (record { from = n; entries = r.entries; tries = r.tries; base = height_of }); entries = r.entries; tries = r.tries }))
+        go true i = turned_by _ (inside (omega (arith, ltb-true r.place.0 p.shares.first.section.count i, gave.place, same_count)))
         go false i =
-            turned_by _ (ended (omega (arith, ltb-false r.place.0 p.first.section.count i, gave.place, same_count, (row_within quota xs).place)))
+            turned_by _ (ended (omega (arith, ltb-false r.place.0 p.shares.first.section.count i, gave.place, same_count, (row_within quota xs).place)))
 
 -- ---- numbers that a turn multiplies
 
@@ -272,8 +275,8 @@ unfolding address
 step-low x ok s i t on r step = omega (arith, (step x ok i.share).0, address-low x ok t on.0)
 
 -- and so is the row's base
-pub base-is : (x : GridSection) (p : RowPlan) (o : PlanOf p x) (at : Stand) (st : Standing x p at) (v : at.third.0 < (axis_of (sections_of x).third).count)
-    (r s : Step) → Stepped p.second at.second.0 r → Stepped p.third at.third.0 s
+pub base-is : (x : GridSection) (p : RowPlan) (o : PlanOf p x) (at : Three Position) (st : Standing x p at) (v : at.third.0 < (axis_of (sections_of x).third).count)
+    (r s : Step) → Stepped p.shares.second at.second.0 r → Stepped p.shares.third at.third.0 s
     → p.elements * (r.address.0 + p.rows * s.address.0) ≡ height_of x p o at st v
 base-is x p o at st v r s row plane =
     let e = (row (sections_of x).second (second-yes x o.accepted) o.second.share).0 in

@@ -57,7 +57,7 @@ module _ (x : GridSection) (p : RowPlan) (o : PlanOf p x) where
   along t quota l = fill_by (walk_on first) t quota l
 
   -- what was written from the first place to the row's end
-  pub whole-stored : (t : ℕ) → t ≡ p.enter.0 → (quota n base : ℕ) (l bs : List ℕ) → base < 2147483648 → On first p.first.processor t
+  pub whole-stored : (t : ℕ) → t ≡ p.enter.0 → (quota n base : ℕ) (l bs : List ℕ) → base < 2147483648 → On first p.shares.first.processor t
       → let g : Filled = along t quota l in
       g.place ≡ first.count → g.entries ≤ length g.list
       → take g.entries (drop n (words_of 4 bs)) ≡ map (λ (z : ℕ). base + z) (take g.entries g.list)

@@ -2,13 +2,14 @@
 use Rattle.std.specs.Prelude.{ℕ, ◌≤◌, ◌<◌, ◌≡◌, true}
 use Rattle.model.specs.Questions.{first_no}
 use Rattle.model.specs.Grids.{GridSection, sections_of, of_grid_section}
-use Rattle.grid_section.specs.declared.places.Shares.{Shares}
+use Rattle.model.specs.declared.three.Three.{Three}
+use Rattle.section.specs.declared.shares.Share.{Share}
 use Rattle.grid_section.specs.Shares.{positions_in, owned_on}
 use Rattle.grid_fill.specs.declared.rows.RowPlan.{RowPlan}
 use Rattle.grid_fill.specs.Rows.{ShareIn, held_on, PlanOf}
 
 -- they are shares of an accepted section, and so many elements and rows are what their processor has of the array
-pub record SourceOf (s : Shares) (elements rows : ℕ) (x : GridSection) : Type 0 where
+pub record SourceOf (s : Three Share) (elements rows : ℕ) (x : GridSection) : Type 0 where
   pub accepted : first_no (of_grid_section x) ≡ 0
   pub first : ShareIn (sections_of x).first s.first
   pub second : ShareIn (sections_of x).second s.second
@@ -16,16 +17,12 @@ pub record SourceOf (s : Shares) (elements rows : ℕ) (x : GridSection) : Type 
   pub elements-are : elements ≡ held_on (sections_of x).first s.first.processor
   pub rows_are : rows ≡ held_on (sections_of x).second s.second.processor
 
-pub record Sourced (s : Shares) (elements rows : ℕ) : Type 0 where
+pub record Sourced (s : Three Share) (elements rows : ℕ) : Type 0 where
   pub source : GridSection
   pub shares : SourceOf s elements rows source
 
--- the shares that a plan goes by
-abbrev pub shares_from : RowPlan → Shares
-shares_from p = record { first = p.first; second = p.second; third = p.third }
-
 -- t is the count, or a position that the processor owns
-pub record PlaceIn (s : Shares) (t : ℕ) : Type 0 where
+pub record PlaceIn (s : Three Share) (t : ℕ) : Type 0 where
   pub within : t ≤ positions_in s
   pub owned : t < positions_in s → owned_on s t ≡ true
 
@@ -33,4 +30,4 @@ pub record PlaceIn (s : Shares) (t : ℕ) : Type 0 where
 pub record Entered (p : RowPlan) (t : ℕ) : Type 0 where
   pub source : GridSection
   pub planned : PlanOf p source
-  pub place : PlaceIn (shares_from p) t
+  pub place : PlaceIn p.shares t

@@ -1,37 +1,35 @@
 -- Questions 8, 10 and 11 of a fill of a grid's section, after those about the section, and what a fill that passed them may count
 -- on. Definitions only.
-use Rattle.std.specs.Prelude.{ℕ, ◌≤◌, cond, List, [], ◌∷◌, eqb, ℤ, pos}
+use Rattle.std.specs.Prelude.{ℕ, ◌≤◌, cond, List, [], ◌∷◌, eqb, ℤ, pos, Result, Ok, Err}
 use Rattle.numbers.specs.Words.{words_of}
 use Rattle.model.specs.Mappings.{dealing_with, Section}
 use Rattle.model.specs.Ownership.{nat, held}
 use Rattle.model.specs.Questions.{Question, ask, first_no, between, is_below}
 use Rattle.model.specs.Filling.{fill_by}
-use Rattle.model.specs.Grids.{Three, GridSection, sections_of}
+use Rattle.model.specs.declared.three.Three.{Three}
+use Rattle.model.specs.Grids.{GridSection, sections_of}
 use Rattle.model.specs.GridCalls.{of_grid_fill}
 use Rattle.mapping.specs.Parts.{owner_for}
 use Rattle.walk.specs.declared.moves.Report.{Report}
 use Rattle.walk.specs.Driving.{ByteFilled}
 use Rattle.grid_section.specs.declared.lines.Line.{Line}
-use Rattle.grid_section.specs.declared.lines.Lines.{Lines}
-use Rattle.grid_section.specs.declared.places.Shares.{Shares}
+use Rattle.section.specs.declared.shares.Share.{Share}
 use Rattle.grid_section.specs.Lines.{processors_on}
 use Rattle.grid_section.specs.Shares.{shares_on, shares_in, is_place_by}
 use Rattle.grid_fill.specs.declared.ready.Start.{Start}
-use Rattle.grid_fill.specs.declared.ready.Ready.{Ready}
-use Rattle.grid_fill.specs.declared.ready.Ready.TheVariants.{Go, Refused}
 use Rattle.grid_fill.specs.Rows.{held_on, grid_walk}
 use Rattle.grid_fill.specs.Plans.{SourceOf, PlaceIn}
 
 -- ---- the questions
 
 -- a fill, if its questions, of which e is the first that is answered no, passed
-abbrev pub ready_by : Start → ℕ → Ready
-ready_by s e = cond (eqb e 0) (Go s) (Refused e)
+abbrev pub ready_by : Start → ℕ → Result Start ℕ
+ready_by s e = cond (eqb e 0) (Ok s) (Err e)
 
 -- grid processor q's fill of sections of three dimensions
 abbrev pub start_of : Three Section → ℤ → ℤ → ℤ → Start
 start_of x q t z =
-    let s : Shares = shares_in x (nat q) in
+    let s : Three Share = shares_in x (nat q) in
     record {
       shares = s;
       elements = held_on x.first s.first.processor;
@@ -41,7 +39,7 @@ start_of x q t z =
     }
 
 -- nothing is asked about the list
-unfoldable pub ready_of : GridSection → ℤ → ℤ → ℤ → Ready
+unfoldable pub ready_of : GridSection → ℤ → ℤ → ℤ → Result Start ℕ
 ready_of x q t z =
     ready_by (start_of (sections_of x) q t z) (first_no (of_grid_fill (record { section = x; processor = q; place = t; quota = z; list = [] })))
 
@@ -49,9 +47,9 @@ ready_of x q t z =
 abbrev pub held_in : Line → List ℕ → ℕ → ℕ
 held_in x sizes q = held (owner_for x.section.layout (dealing_with x.dealing sizes)) x.section.layout.size q
 
-abbrev pub start_in : Lines → List ℕ → List ℕ → List ℕ → ℤ → ℤ → ℤ → Start
+abbrev pub start_in : Three Line → List ℕ → List ℕ → List ℕ → ℤ → ℤ → ℤ → Start
 start_in x b c d q t z =
-    let s : Shares = shares_on x b c d (nat q) in
+    let s : Three Share = shares_on x b c d (nat q) in
     record {
       shares = s;
       elements = held_in x.first b s.first.processor;
@@ -61,11 +59,11 @@ start_in x b c d q t z =
     }
 
 -- what is left to ask of an accepted section, and the answer
-abbrev pub left_of : ℕ → Shares → ℤ → ℤ → ℤ → List Question
+abbrev pub left_of : ℕ → Three Share → ℤ → ℤ → ℤ → List Question
 left_of processors s q t z =
     ask 8 (is_below (pos processors) q) ∷ ask 10 (is_place_by s t) ∷ ask 11 (between (pos 3) (pos 1000000) z) ∷ []
 
-unfoldable pub ready_in : Lines → List ℕ → List ℕ → List ℕ → ℤ → ℤ → ℤ → Ready
+unfoldable pub ready_in : Three Line → List ℕ → List ℕ → List ℕ → ℤ → ℤ → ℤ → Result Start ℕ
 ready_in x b c d q t z =
     ready_by (start_in x b c d q t z) (first_no (left_of (processors_on x) (shares_on x b c d (nat q)) q t z))
 

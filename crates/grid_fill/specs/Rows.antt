@@ -1,5 +1,5 @@
 -- Fills by rows: where a fill stands, what a turn of it gives, and a row that is known whole. Definitions only.
-use Rattle.std.specs.Prelude.{ℕ, ◌+◌, ◌-◌, ◌*◌, ◌/◌, ◌≤◌, ◌<◌, ◌≡◌, true, cond, List, ◌++◌, map, ltb, length, take, drop}
+use Rattle.std.specs.Prelude.{ℕ, ◌+◌, ◌-◌, ◌*◌, ◌/◌, ◌≤◌, ◌<◌, ◌≡◌, true, cond, List, ◌++◌, map, ltb, length, take, drop, Option, Some, None}
 use Rattle.numbers.specs.Words.{words_of}
 use Rattle.model.specs.Mappings.{Section}
 use Rattle.model.specs.Ownership.{held}
@@ -15,7 +15,8 @@ use Rattle.walk.specs.Driving.{ByteFilled}
 use Rattle.fill.specs.Ways.{WayOf}
 use Rattle.grid_fill.specs.Entries.{AllLow}
 use Rattle.grid_fill.specs.declared.rows.RowPlan.{RowPlan}
-use Rattle.grid_fill.specs.declared.rows.Stand.{Stand}
+use Rattle.model.specs.declared.three.Three.{Three}
+use Rattle.model.specs.declared.Position.{Position}
 use Rattle.grid_fill.specs.declared.turns.Whole.{Whole}
 use Rattle.grid_fill.specs.declared.turns.Turn.{Turn}
 
@@ -28,9 +29,9 @@ RowFilled s t base quota bs bs' r =
     → ByteFilled (fill_by (on_base base (walk_on (axis_of x))) t quota (words_of 4 bs)) bs bs' r
 
 -- the first place of the row after one
-abbrev pub entering_at : RowPlan → ℕ → ℕ → ℕ → Stand
+abbrev pub entering_at : RowPlan → ℕ → ℕ → ℕ → Three Position
 entering_at p u v next =
-    cond (ltb u p.second.section.count) (record { first = p.enter; second = record { 0 = u }; third = record { 0 = v } })
+    cond (ltb u p.shares.second.section.count) (record { first = p.enter; second = record { 0 = u }; third = record { 0 = v } })
     (record { first = p.enter; second = p.row; third = record { 0 = next } })
 
 -- ---- a plan
@@ -46,17 +47,17 @@ held_on x q = held (axis_of x).array.owner (axis_of x).array.size q
 -- it is one for a grid processor of an accepted section
 pub record PlanOf (p : RowPlan) (x : GridSection) : Type 0 where
   pub accepted : first_no (of_grid_section x) ≡ 0
-  pub first : ShareIn (sections_of x).first p.first
-  pub second : ShareIn (sections_of x).second p.second
-  pub third : ShareIn (sections_of x).third p.third
-  pub first_way : WayOf p.first p.first_way
-  pub second_way : WayOf p.second p.second_way
-  pub third-way : WayOf p.third p.third_way
-  pub elements : p.elements ≡ held_on (sections_of x).first p.first.processor
-  pub rows : p.rows ≡ held_on (sections_of x).second p.second.processor
+  pub first : ShareIn (sections_of x).first p.shares.first
+  pub second : ShareIn (sections_of x).second p.shares.second
+  pub third : ShareIn (sections_of x).third p.shares.third
+  pub first_way : WayOf p.shares.first p.ways.first
+  pub second_way : WayOf p.shares.second p.ways.second
+  pub third-way : WayOf p.shares.third p.ways.third
+  pub elements : p.elements ≡ held_on (sections_of x).first p.shares.first.processor
+  pub rows : p.rows ≡ held_on (sections_of x).second p.shares.second.processor
   pub few : p.rows ≤ 2147483647
-  pub enter : p.enter.0 ≡ first_on (axis_of (sections_of x).first) p.first.processor
-  pub row : p.row.0 ≡ first_on (axis_of (sections_of x).second) p.second.processor
+  pub enter : p.enter.0 ≡ first_on (axis_of (sections_of x).first) p.shares.first.processor
+  pub row : p.row.0 ≡ first_on (axis_of (sections_of x).second) p.shares.second.processor
 
 -- ---- where a fill stands
 
@@ -65,14 +66,14 @@ abbrev pub On : Axis → ℕ → ℕ → Type 0
 On a q t = (t < a.count) × (owns_on a q t ≡ true)
 
 -- at a place of the processor, or, with the third dimension's count, at the end
-pub record Standing (x : GridSection) (p : RowPlan) (at : Stand) : Type 0 where
+pub record Standing (x : GridSection) (p : RowPlan) (at : Three Position) : Type 0 where
   pub within : at.third.0 ≤ (axis_of (sections_of x).third).count
-  pub first : at.third.0 < (axis_of (sections_of x).third).count → On (axis_of (sections_of x).first) p.first.processor at.first.0
-  pub second : at.third.0 < (axis_of (sections_of x).third).count → On (axis_of (sections_of x).second) p.second.processor at.second.0
-  pub third : at.third.0 < (axis_of (sections_of x).third).count → On (axis_of (sections_of x).third) p.third.processor at.third.0
+  pub first : at.third.0 < (axis_of (sections_of x).third).count → On (axis_of (sections_of x).first) p.shares.first.processor at.first.0
+  pub second : at.third.0 < (axis_of (sections_of x).third).count → On (axis_of (sections_of x).second) p.shares.second.processor at.second.0
+  pub third : at.third.0 < (axis_of (sections_of x).third).count → On (axis_of (sections_of x).third) p.shares.third.processor at.third.0
 
 -- its position
-abbrev pub place_of : GridSection → Stand → ℕ
+abbrev pub place_of : GridSection → Three Position → ℕ
 place_of x at =
     let m : ℕ = (axis_of (sections_of x).first).count in
     let n : ℕ = (axis_of (sections_of x).second).count in
@@ -91,8 +92,7 @@ Goes w t quota l e c u l' =
     let r : Filled = fill_by w u (quota - c) (drop e l') in
     fill_by w t quota l ≡ record { entries = e + r.entries; tries = c + r.tries; place = r.place; list = take e l' ++ r.list }
 
--- A row that stands whole in the list, before entry n: where, how many entries and tries it has, and how high it lies. One of no
--- entries is none.
+-- a row that stands whole in the list, before entry n: where, how many entries and tries it has, and how high it lies
 pub record Stored (x : GridSection) (p : RowPlan) (bs : List ℕ) (n : ℕ) (w : Whole) : Type 0 where
   pub before : w.from + w.entries ≤ n
   pub base : w.base < 2147483648
@@ -105,11 +105,13 @@ pub record Stored (x : GridSection) (p : RowPlan) (bs : List ℕ) (n : ℕ) (w :
       → fill_by (walk_on (axis_of (sections_of x).first)) p.enter.0 quota l
       ≡ record { entries = w.entries; tries = w.tries; place = (axis_of (sections_of x).first).count; list = addresses ++ drop w.entries l }
 
-abbrev pub Known : GridSection → RowPlan → List ℕ → ℕ → Whole → Type 0
-Known x p bs n w = 0 < w.entries → Stored x p bs n w
+-- if there is one
+abbrev pub Known : GridSection → RowPlan → List ℕ → ℕ → Option Whole → Type 0
+Known x p bs n None = Unit {0}
+Known x p bs n (Some w) = Stored x p bs n w
 
 -- what a turn gives from where the fill stands, with so many tries left and n entries written
-pub record Turned (x : GridSection) (p : RowPlan) (at : Stand) (quota n : ℕ) (bs bs' : List ℕ) (t : Turn) : Type 0 where
+pub record Turned (x : GridSection) (p : RowPlan) (at : Three Position) (quota n : ℕ) (bs bs' : List ℕ) (t : Turn) : Type 0 where
   pub some : 0 < t.entries
   pub room : n + t.entries ≤ length bs / 4
   pub tries : t.tries ≤ quota

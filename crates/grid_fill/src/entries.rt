@@ -6,17 +6,15 @@ ghost use Rattle.grid_fill.specs.Entries.{higher};
 
 use numbers::words::word_at;
 use walk::bytes::put_entry;
-use walk::moves::{self};
+use walk::moves;
 
 // The n entries from entry `from` on, put from entry `to` on with so much added; in place, or after them.
 pub(crate) fn put_higher(list: &mut [u8], from: usize, to: usize, n: usize, add: u64)
     requires { (to + n ≤ length list.old / 4) × ((from ≡ to) ⊎ (from + n ≤ to)) × (add < 4294967296) }
     ensures { list.new ≡ store_entries list.old to (higher add (take n (drop from (words_of 4 list.old)))) }
 {
-    let mut i: usize = 0;
-    while i < n {
+    for i in 0..n {
         let x = word_at(list, from + i) as u64;
         put_entry(list, to + i, ((x + add) % moves::ADDRESSES) as u32);
-        i += 1;
     }
 }

@@ -3,7 +3,7 @@ ghost use Rattle.std.specs.Prelude.{◌≡◌};
 ghost use Rattle.grid_fill.specs.Turns.{Started, FillsTurns, FillsRows, Lined, place_in};
 
 use crate::rows::{RowPlan, Stand};
-use crate::turns::{Whole, next_turn};
+use crate::turns::next_turn;
 use grid_section::lines::product_of;
 use model::{LEAST_TRIES, Position};
 use walk::moves::Report;
@@ -13,9 +13,9 @@ fn place_of(p: RowPlan, at: Stand) -> Position
     requires { Lined p at }
     ensures { result.0 ≡ place_in p at }
 {
-    let m = p.first.section.count;
-    let n = p.second.section.count;
-    let o = p.third.section.count;
+    let m = p.shares.first.section.count;
+    let n = p.shares.second.section.count;
+    let o = p.shares.third.section.count;
     if at.third.0 < o {
         return Position(at.first.0 + m * (at.second.0 + n * at.third.0));
     }
@@ -36,16 +36,12 @@ fn fill_turns(p: RowPlan, start: Stand, quota: u64, list: &mut [u8]) -> Ended
     ensures { FillsTurns p start quota list.old list.new result }
 {
     let room = list.len() / 4;
-    let count = p.third.section.count;
+    let count = p.shares.third.section.count;
     let mut at = start;
-    let mut whole = Whole {
-        from: 0,
-        entries: 0,
-        tries: 0,
-        base: 0,
-    };
+    let mut whole = None;
     let mut paid: u64 = 0;
     let mut n: usize = 0;
+    // Not a 'for': a turn says how many entries it wrote.
     while n < room {
         if count <= at.third.0 {
             break;

@@ -6,11 +6,10 @@ ghost use Rattle.model.specs.Grids.{grid_section_with};
 ghost use Rattle.grid_fill.specs.Ready.{Accepted, FillsFrom};
 ghost use Rattle.grid_fill.specs.Answers.{GridFilledBytes};
 
-use fill::Filled;
 use filling::fill_rows;
-use model::GridSection;
+use model::{GridSection, Refusal, Three};
 use plans::{plan_of, stand_at};
-use ready::{Ready, Start, ask_fill};
+use ready::{Start, ask_fill};
 use walk::moves::Report;
 
 mod entries;
@@ -26,28 +25,22 @@ fn fill_from(s: Start, list: &mut [u8]) -> Report
     requires { Accepted s }
     ensures { FillsFrom s list.old list.new result }
 {
-    let shares = s.shares;
-    let place = s.place;
-    let plan = plan_of(shares, s.elements, s.rows);
-    let at = stand_at(plan, place);
+    let plan = plan_of(s.shares, s.elements, s.rows);
+    let at = stand_at(plan, s.place);
     fill_rows(plan, at, s.quota, list)
 }
 
 // A fill of bytes, 4 to an address, lowest first.
 pub fn fill_into_bytes(
     x: GridSection,
-    b: &[u8],
-    c: &[u8],
-    d: &[u8],
+    sizes: Three<&[u8]>,
     processor: i64,
     place: i64,
     quota: i64,
     list: &mut [u8],
-) -> Filled
-    ensures { GridFilledBytes (record { section = grid_section_with x b.now c.now d.now; processor = processor; place = place; quota = quota; bytes = list.old }) list.new result }
+) -> Result<Report, Refusal>
+    ensures { GridFilledBytes (record { section = grid_section_with x sizes.entry.first.now sizes.entry.second.now sizes.entry.third.now; processor = processor; place = place; quota = quota; bytes = list.old }) list.new result }
 {
-    match ask_fill(x, b, c, d, processor, place, quota) {
-        Ready::Go(s) => Filled::Done(fill_from(s, list)),
-        Ready::Refused(e) => Filled::Refused(e),
-    }
+    let s = ask_fill(x, sizes, processor, place, quota)?;
+    Ok(fill_from(s, list))
 }

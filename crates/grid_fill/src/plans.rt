@@ -2,38 +2,35 @@
 ghost use Rattle.std.specs.Prelude.{◌≡◌};
 ghost use Rattle.model.specs.Grids.{GridSection};
 ghost use Rattle.grid_fill.specs.Rows.{PlanOf, Standing, place_of};
-ghost use Rattle.grid_fill.specs.Plans.{shares_from, SourceOf, Sourced, Entered};
+ghost use Rattle.grid_fill.specs.Plans.{SourceOf, Sourced, Entered};
 
 use crate::rows::{RowPlan, Stand};
 use fill::ways::way_of;
 use grid_section::lines::product_of;
 use grid_section::places::Shares;
-use model::Position;
+use model::{Position, Three};
 use section::shares::first_of;
 
 // The plan for the shares of a grid processor whose first coordinate has so many elements of its
 // dimension, and the second so many of the next.
 pub(crate) fn plan_of(s: Shares, elements: u64, rows: u64) -> RowPlan
     requires { Sourced s elements rows }
-    ensures result_value { shares_from result ≡ s }
+    ensures result_value { result.shares ≡ s }
     ensures plan_of { (x : GridSection) → SourceOf s elements rows x → PlanOf result x }
 {
-    let a = s.first;
-    let b = s.second;
-    let c = s.third;
-    let enter = first_of(a);
-    let row = first_of(b);
+    let enter = first_of(s.first);
+    let row = first_of(s.second);
     RowPlan {
-        first: a,
-        second: b,
-        third: c,
-        first_way: way_of(a),
-        second_way: way_of(b),
-        third_way: way_of(c),
+        shares: s,
+        ways: Three {
+            first: way_of(s.first),
+            second: way_of(s.second),
+            third: way_of(s.third),
+        },
         elements,
         rows,
-        enter: enter,
-        row: row,
+        enter,
+        row,
     }
 }
 
@@ -42,9 +39,9 @@ pub(crate) fn stand_at(p: RowPlan, place: Position) -> Stand
     requires { Entered p place.0 }
     ensures { (x : GridSection) → PlanOf p x → Standing x p result × (place_of x result ≡ place.0) }
 {
-    let m = p.first.section.count;
-    let n = p.second.section.count;
-    let o = p.third.section.count;
+    let m = p.shares.first.section.count;
+    let n = p.shares.second.section.count;
+    let o = p.shares.third.section.count;
     if place.0 < product_of(m, n, o) {
         let row = place.0 / m;
         let t = place.0 % m;
@@ -56,11 +53,9 @@ pub(crate) fn stand_at(p: RowPlan, place: Position) -> Stand
             third: Position(v),
         };
     }
-    let enter = p.enter;
-    let row = p.row;
     Stand {
-        first: enter,
-        second: row,
+        first: p.enter,
+        second: p.row,
         third: Position(o),
     }
 }

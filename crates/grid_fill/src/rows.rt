@@ -8,7 +8,8 @@ ghost use Rattle.grid_fill.specs.Rows.{RowFilled, entering_at};
 use crate::entries::put_higher;
 use fill::ready::Start;
 use fill::ways::{Way, fill_bytes_by};
-use model::Position;
+use grid_section::places::Shares;
+use model::{Position, Three};
 use section::shares::Share;
 use walk::moves::Report;
 
@@ -17,12 +18,8 @@ use walk::moves::Report;
 // first place in a row, and its first row in a plane.
 #[derive(Clone, Copy)]
 pub struct RowPlan {
-    pub first: Share,
-    pub second: Share,
-    pub third: Share,
-    pub first_way: Way,
-    pub second_way: Way,
-    pub third_way: Way,
+    pub shares: Shares,
+    pub ways: Three<Way>,
     pub elements: u64,
     pub rows: u64,
     pub enter: Position,
@@ -30,12 +27,7 @@ pub struct RowPlan {
 }
 
 // Where a fill stands: its place in each dimension. With the third's count it is at the end.
-#[derive(Clone, Copy)]
-pub struct Stand {
-    pub first: Position,
-    pub second: Position,
-    pub third: Position,
-}
+pub type Stand = Three<Position>;
 
 // The fill of a row from its place t on, whose addresses lie so much higher than the dimension's.
 pub(crate) fn fill_row(
@@ -50,12 +42,10 @@ pub(crate) fn fill_row(
     requires le_quota { (3 ≤ quota) × (quota ≤ 1000000) × (base < 2147483648) }
     ensures { RowFilled s t.0 base quota list.old list.new result }
 {
-    let w = s.section;
-    let extent = s.extent;
     let start = Start {
-        section: w,
+        section: s.section,
         processor: s.processor,
-        extent,
+        extent: s.extent,
         place: t,
         quota,
     };
@@ -69,19 +59,17 @@ pub(crate) fn fill_row(
 pub(crate) fn entering(p: RowPlan, second: Position, third: Position, next: Position) -> Stand
     ensures { result ≡ entering_at p second.0 third.0 next.0 }
 {
-    let count = p.second.section.count;
-    let enter = p.enter;
+    let count = p.shares.second.section.count;
     if second.0 < count {
         return Stand {
-            first: enter,
-            second: second,
-            third: third,
+            first: p.enter,
+            second,
+            third,
         };
     }
-    let row = p.row;
     Stand {
-        first: enter,
-        second: row,
+        first: p.enter,
+        second: p.row,
         third: next,
     }
 }

@@ -16,12 +16,10 @@ pub(crate) fn addresses_from(s: Share, way: Way, t: Position, list: &mut [u8]) -
     requires { Placed s t.0 × WayOf s way }
     ensures { FillsBytesFrom (from_place s t.0 1000000) list.old list.new result }
 {
-    let w = s.section;
-    let extent = s.extent;
     let start = Start {
-        section: w,
+        section: s.section,
         processor: s.processor,
-        extent,
+        extent: s.extent,
         place: t,
         quota: MOST_TRIES,
     };
@@ -41,9 +39,8 @@ pub(crate) fn step_from(s: Share, way: Way, t: Position) -> Step
 {
     let mut entry = [0u8; 4];
     let r = addresses_from(s, way, t, &mut entry);
-    let next = r.place;
     Step {
         address: Address(word_at(&entry, 0) as u64),
-        next: next,
+        next: r.place,
     }
 }

@@ -14,7 +14,7 @@ use numbers::words::word_at;
 use walk::moves::{self, Report};
 
 // A row that stands whole in the list, from the processor's first place to its end: from which entry
-// on, its entries, its tries, and how high its addresses lie. Without entries there is none.
+// on, its entries, its tries, and how high its addresses lie.
 #[derive(Clone, Copy)]
 pub struct Whole {
     pub from: usize,
@@ -27,7 +27,7 @@ pub struct Whole {
 #[derive(Clone, Copy)]
 pub struct Turn {
     pub stand: Stand,
-    pub whole: Whole,
+    pub whole: Option<Whole>,
     pub entries: usize,
     pub tries: u64,
 }
@@ -43,66 +43,47 @@ fn turn_after(p: RowPlan, at: Stand, row: Step, plane: Step, r: Report, n: usize
     ensures { result ≡ turn_after p at row.next.0 plane.next.0 r n base }
 {
     let place = r.place;
-    if place.0 < p.first.section.count {
-        return Turn {
-            stand: Stand {
-                first: place,
-                second: at.second,
-                third: at.third,
-            },
-            whole: Whole {
-                from: n,
-                entries: 0,
-                tries: r.tries,
-                base,
-            },
-            entries: r.entries,
-            tries: r.tries,
-        };
-    }
-    let next = row.next;
-    let up = plane.next;
-    Turn {
-        stand: entering(p, next, at.third, up),
-        whole: Whole {
-            from: n,
-            entries: if at.first.0 == p.enter.0 {
-                r.entries
-            } else {
-                0
-            },
-            tries: r.tries,
-            base,
-        },
+    let part = Turn {
+        stand: Stand { first: place, ..at },
+        whole: None,
         entries: r.entries,
         tries: r.tries,
+    };
+    if place.0 < p.shares.first.section.count {
+        return part;
+    }
+    let whole = Whole {
+        from: n,
+        entries: r.entries,
+        tries: r.tries,
+        base,
+    };
+    Turn {
+        stand: entering(p, row.next, at.third, plane.next),
+        whole: (at.first.0 == p.enter.0).then_some(whole),
+        ..part
     }
 }
 
 fn row_turn(p: RowPlan, at: Stand, plane: Step, quota: u64, list: &mut [u8], n: usize) -> Turn
-    requires { Begun p at (length list.old) quota n × Stepped p.third at.third.0 plane }
+    requires { Begun p at (length list.old) quota n × Stepped p.shares.third at.third.0 plane }
     ensures { (x : GridSection) → PlanOf p x → Standing x p at → Turned x p at quota n list.old list.new result }
 {
-    let second = p.second;
-    let second_way = p.second_way;
-    let u = at.second;
-    let row = step_from(second, second_way, u);
+    let row = step_from(p.shares.second, p.ways.second, at.second);
     let base = p.elements * (row.address.0 + p.rows * plane.address.0);
-    let first = p.first;
-    let first_way = p.first_way;
-    let t = at.first;
     let from = 4 * n;
-    let r = fill_row(first, first_way, t, base, quota, &mut list[from..]);
+    let r = fill_row(
+        p.shares.first,
+        p.ways.first,
+        at.first,
+        base,
+        quota,
+        &mut list[from..],
+    );
     turn_after(p, at, row, plane, r, n, base)
 }
 
 // ---- copies of a row
-
-fn least(a: u64, b: u64) -> u64
-    ensures { (result ≤ a) × (result ≤ b) }
-{
-    if a < b { a } else { b }
-}
 
 // How many rows can be copied, each whole: at a row's first place as many as there is room for, and as
 // have their tries, whatever the last entry of each leaves.
@@ -110,17 +91,11 @@ fn rows_again(enters: bool, w: Whole, quota: u64, room: usize) -> usize
     requires { 3 ≤ quota }
     ensures { (result ≤ 64) × (result * w.entries ≤ room) × (0 < result → (enters ≡ true) × (0 < w.entries) × (result * w.tries + 2 ≤ quota)) }
 {
-    if !enters {
+    if !enters || w.entries == 0 || w.tries == 0 {
         return 0;
     }
-    if w.entries == 0 {
-        return 0;
-    }
-    if w.tries == 0 {
-        return 0;
-    }
-    let by_room = least(MOST_ROWS, (room / w.entries) as u64);
-    least(by_room, (quota - 2) / w.tries) as usize
+    let by_room = MOST_ROWS.min((room / w.entries) as u64);
+    by_room.min((quota - 2) / w.tries) as usize
 }
 
 // Copies of a row, one after another from entry n on, so many as addresses of rows are given.
@@ -137,12 +112,10 @@ fn put_rows(
     requires { Copies elements rows plane.0 addresses.now w count (length list.old) n }
     ensures { list.new ≡ put_rows (base_at elements rows plane.0 addresses.now) w list.old n count }
 {
-    let mut j: usize = 0;
-    while j < count {
+    for j in 0..count {
         let base = elements * (word_at(addresses, j) as u64 + rows * plane.0);
         let add = (base + (moves::ADDRESSES - w.base)) % moves::ADDRESSES;
         put_higher(list, w.from, n + j * w.entries, w.entries, add);
-        j += 1;
     }
 }
 
@@ -157,14 +130,11 @@ fn copy_rows(
     list: &mut [u8],
     n: usize,
 ) -> Turn
-    requires begun { Begun p at (length list.old) 3 n × Stepped p.third at.third.0 plane }
+    requires begun { Begun p at (length list.old) 3 n × Stepped p.shares.third at.third.0 plane }
     requires copying { Copying p at w (length rows.old / 4) (length list.old) n }
     ensures { Copied p at w (length rows.old / 4) n list.old list.new result }
 {
-    let second = p.second;
-    let second_way = p.second_way;
-    let u = at.second;
-    let r = addresses_from(second, second_way, u, rows);
+    let r = addresses_from(p.shares.second, p.ways.second, at.second, rows);
     put_rows(
         p.elements,
         p.rows,
@@ -175,12 +145,9 @@ fn copy_rows(
         list,
         n,
     );
-    let place = r.place;
-    let third = at.third;
-    let up = plane.next;
     Turn {
-        stand: entering(p, place, third, up),
-        whole: w,
+        stand: entering(p, r.place, at.third, plane.next),
+        whole: Some(w),
         entries: r.entries * w.entries,
         tries: r.entries as u64 * w.tries,
     }
@@ -195,7 +162,7 @@ fn copy_turn(
     list: &mut [u8],
     n: usize,
 ) -> Turn
-    requires begun { Begun p at (length list.old) 3 n × Stepped p.third at.third.0 plane }
+    requires begun { Begun p at (length list.old) 3 n × Stepped p.shares.third at.third.0 plane }
     requires copying { Copying p at w count (length list.old) n }
     ensures { Copied p at w count n list.old list.new result }
 {
@@ -210,22 +177,21 @@ fn copy_turn(
 pub(crate) fn next_turn(
     p: RowPlan,
     at: Stand,
-    w: Whole,
+    whole: Option<Whole>,
     quota: u64,
     list: &mut [u8],
     n: usize,
 ) -> Turn
-    requires { Going p at w quota n list.old }
-    ensures { (x : GridSection) → PlanOf p x → Standing x p at → Known x p list.old n w → Turned x p at quota n list.old list.new result }
+    requires { Going p at whole quota n list.old }
+    ensures { (x : GridSection) → PlanOf p x → Standing x p at → Known x p list.old n whole → Turned x p at quota n list.old list.new result }
 {
-    let third = p.third;
-    let third_way = p.third_way;
-    let v = at.third;
-    let plane = step_from(third, third_way, v);
-    let room = list.len() / 4 - n;
-    let count = rows_again(at.first.0 == p.enter.0, w, quota, room);
-    if count == 0 {
-        return row_turn(p, at, plane, quota, list, n);
+    let plane = step_from(p.shares.third, p.ways.third, at.third);
+    if let Some(w) = whole {
+        let room = list.len() / 4 - n;
+        let count = rows_again(at.first.0 == p.enter.0, w, quota, room);
+        if 0 < count {
+            return copy_turn(p, at, w, plane, count, list, n);
+        }
     }
-    copy_turn(p, at, w, plane, count, list, n)
+    row_turn(p, at, plane, quota, list, n)
 }

@@ -3,14 +3,14 @@ use Prim.Native.Nat.{ℕ}
 use mathlib.Core.Path.{◌≡◌, refl, sym, ap, ◌∙◌, subst}
 use mathlib.Core.Bool.{Bool, true, false, cond}
 use mathlib.Core.List.{List, []}
-use native.Mathlib.Omega.{arith}
-use borrow.Author.Tests.{eqb-true, eqb-false, eq-eqb, ne_eqb}
+use borrow.Author.Tests.{eq-eqb, ne_eqb}
 use lib.Dec.{eqb}
 use lib.IntN.{ℤ, pos}
+use Rattle.std.proofs.Common.{Ok, Err}
 use Rattle.model.specs.declared.Dealing as dealings
 use Rattle.model.specs.declared.Dealing.TheVariants.{Cyclic, GenBlock}
 use Rattle.model.specs.declared.Section as sections
-use Rattle.model.specs.declared.GridSection as grid_sections
+use Rattle.model.specs.declared.three.Ranked.{Ranked}
 use Rattle.model.specs.Mappings.{dealing_with, Section, section_with}
 use Rattle.model.specs.Ownership.{nat}
 use Rattle.model.specs.Sections.{layout, count}
@@ -18,7 +18,8 @@ use Rattle.model.specs.Steps.{steps_of}
 use Rattle.model.specs.Questions.{first_no, is_below, of_section}
 use Rattle.model.specs.Calls.{steps_report, PlaceAnswer}
 use Rattle.model.specs.Axes.{first_on}
-use Rattle.model.specs.Grids.{Three, GridSection, sections_of, grid_section_with, grid_axis, of_grid_section, of_grid_processor}
+use Rattle.model.specs.declared.three.Three.{Three}
+use Rattle.model.specs.Grids.{GridSection, sections_of, grid_section_with, grid_axis, of_grid_section, of_grid_processor}
 use Rattle.model.specs.GridCalls.{GridStepsAnswer, grid_steps, of_grid_place, grid_first_place}
 use Rattle.model.proofs.QuestionLaws.{all_yes, asks-on, stops, below-is}
 use Rattle.mapping.specs.Parts.{Listed}
@@ -28,9 +29,9 @@ use Rattle.section.specs.Answers.{no_place}
 use Rattle.section.specs.Answers as answers
 use Rattle.section.proofs.ShareLaws.{steps-for}
 use Rattle.section.proofs.CallAnswers as calls
-use Rattle.grid_section.specs.declared.lines.Lines.{Lines}
-use Rattle.grid_section.specs.declared.lines.AskedLines.TheVariants.{By, Refused}
-use Rattle.grid_section.specs.Lines.{line_with, section_to, lines_with, processors_on, asked_of, AllListed}
+use Rattle.grid.proofs.AskLaws.{says-yes, says-no}
+use Rattle.grid_section.specs.declared.lines.Line.{Line}
+use Rattle.grid_section.specs.Lines.{line_with, sections_to, lines_with, processors_on, asked_of, AllListed}
 use Rattle.grid_section.specs.Shares.{shares_on, shares_in, shares_of, first_by}
 use Rattle.grid_section.specs.Answers.{not_stepped, report_on, steps_on, first_place_on}
 use Rattle.grid_section.proofs.LineLaws.{Accepted, accepted, sections_with, sections-with}
@@ -53,45 +54,35 @@ list-fits : (s : Section) → first_no (of_section s) ≡ 0 → Listed (strided_
 unfolding answers.asked_of
 list-fits s ok = calls.listed s (strided_of s) (rw (eq-eqb (first_no (of_section s)) 0 ok))
 
-module _ (x : grid_sections.GridSection) (b c d : List ℕ) where
+module _ (x : Ranked sections.Section) (b c d : List ℕ) where
   abbrev g : GridSection
   g = grid_section_with x b c d
 
   -- ---- what the answer says of the questions
 
-  pub record Passed (y : Lines) : Type 0 where
+  pub record Passed (y : Three Line) : Type 0 where
     pub none : first_no (of_grid_section g) ≡ 0
     pub lines : y ≡ lines_with x b c d
 
-  pub passed : (y : Lines) → asked_of x b c d ≡ By y → Passed y
+  pub passed : (y : Three Line) → asked_of x b c d ≡ Ok y → Passed y
   unfolding asked_of
-  passed y e = go (eqb (first_no (of_grid_section g)) 0) refl
-    where
-      go : (t : Bool) → eqb (first_no (of_grid_section g)) 0 ≡ t → Passed y
-      go true p = record { none = eqb-true (first_no (of_grid_section g)) 0 p; lines = let f = rw p at e in cc }
-      go false p = absurd (let f = rw p at e in let z : ◌≡◌ {A = ℕ} 0 1 = cc in omega arith)
+  passed y e = let s = says-yes _ (lines_with x b c d) y e in record { none = s.0; lines = s.1 }
 
   pub record Stopped (e : ℕ) : Type 0 where
     pub first : first_no (of_grid_section g) ≡ e
     pub some : e ≡ 0 → ⊥
 
-  pub stopped : (e : ℕ) → asked_of x b c d ≡ Refused e → Stopped e
+  pub stopped : (e : ℕ) → asked_of x b c d ≡ Err e → Stopped e
   unfolding asked_of
-  stopped q e = go (eqb (first_no (of_grid_section g)) 0) refl
-    where
-      go : (t : Bool) → eqb (first_no (of_grid_section g)) 0 ≡ t → Stopped q
-      go true p = absurd (let f = rw p at e in let z : ◌≡◌ {A = ℕ} 0 1 = cc in omega arith)
-      go false p =
-          let f : first_no (of_grid_section g) ≡ q = let h = rw p at e in cc in
-          record { first = f; some = λ z. eqb-false (first_no (of_grid_section g)) 0 p (f ∙ z) }
+  stopped q e = let s = says-no _ (lines_with x b c d) q e in record { first = s.0; some = s.1 }
 
   -- ---- what the lines of an accepted section have
 
-  module _ {y : Lines} (p : Passed y) where
+  module _ {y : Three Line} (p : Passed y) where
     pub listed : AllListed y b c d
     listed =
         let a : Accepted (sections_with x b c d) = subst Accepted (sym (sections-with x b c d)) (accepted g p.none) in
-        subst (λ (z : Lines). AllListed z b c d) (sym p.lines)
+        subst (λ (z : Three Line). AllListed z b c d) (sym p.lines)
         (record {
           first = list-fits (sections_with x b c d).first a.first;
           second = list-fits (sections_with x b c d).second a.second;
@@ -105,7 +96,7 @@ module _ (x : grid_sections.GridSection) (b c d : List ℕ) where
     pub shares-are : (q : ℕ) → shares_on y b c d q ≡ shares_of g q
     unfolding strided_of layout
     shares-are q =
-        ap (λ (z : Lines). shares_on z b c d q) p.lines ∙ ap (λ (s : Three Section). shares_in s q) (sections-with x b c d)
+        ap (λ (z : Three Line). shares_on z b c d q) p.lines ∙ ap (λ (s : Three Section). shares_in s q) (sections-with x b c d)
 
     -- question 8
     pub is-processor-are : (q : ℤ) → is_below (pos (processors_on y)) q ≡ is_below (pos (grid_axis (sections_of g)).array.processors) q
@@ -131,19 +122,19 @@ module _ (x : grid_sections.GridSection) (b c d : List ℕ) where
         refusal = 0;
         count = (grid_axis (sections_with x b c d)).count;
         dimensions = record {
-          first = report-is x.first b i;
-          second = report-is (section_to x.rank (pos 2) x.second) c i;
-          third = report-is (section_to x.rank (pos 3) x.third) d i;
+          first = report-is x.dimensions.first b i;
+          second = report-is (sections_to x).second c i;
+          third = report-is (sections_to x).third d i;
         };
       }
 
-  pub steps-by : (y : Lines) → asked_of x b c d ≡ By y → steps_on y ≡ grid_steps g
+  pub steps-by : (y : Three Line) → asked_of x b c d ≡ Ok y → steps_on y ≡ grid_steps g
   unfolding grid_steps
   steps-by y e =
       let p = passed y e in
       ap steps_on p.lines ∙ lines_steps ∙ ap steps_in (sections-with x b c d) ∙ sym (rw (eq-eqb (first_no (of_grid_section g)) 0 p.none))
 
-  pub steps-refused : (q : ℕ) → asked_of x b c d ≡ Refused q → not_stepped q ≡ grid_steps g
+  pub steps-refused : (q : ℕ) → asked_of x b c d ≡ Err q → not_stepped q ≡ grid_steps g
   unfolding grid_steps
   steps-refused q e = let s = stopped q e in rw (s.first, ne_eqb q 0 s.some)
 
@@ -166,7 +157,7 @@ module _ (x : grid_sections.GridSection) (b c d : List ℕ) where
     eighth none =
         sym (asks-on (of_grid_section g) (of_grid_processor (grid_axis (sections_of g)).array q) (all_yes (of_grid_section g) refl none))
 
-    pub place-by : (y : Lines) → asked_of x b c d ≡ By y → first_place_on y b c d q ≡ grid_first_place g q
+    pub place-by : (y : Three Line) → asked_of x b c d ≡ Ok y → first_place_on y b c d q ≡ grid_first_place g q
     unfolding first_place_on grid_first_place answer nat
     place-by y e =
         let p = passed y e in
@@ -177,7 +168,7 @@ module _ (x : grid_sections.GridSection) (b c d : List ℕ) where
         ∙ decided (is_below (pos n) q) (first_by (shares_on y b c d (nat q))) (first_on (grid_axis (sections_of g)) (nat q)) place
         ∙ ap (λ (k : ℕ). answer k (first_on (grid_axis (sections_of g)) (nat q))) (eighth p.none)
 
-    pub place-refused : (e : ℕ) → asked_of x b c d ≡ Refused e → no_place e ≡ grid_first_place g q
+    pub place-refused : (e : ℕ) → asked_of x b c d ≡ Err e → no_place e ≡ grid_first_place g q
     unfolding grid_first_place
     place-refused e r =
         let s = stopped e r in

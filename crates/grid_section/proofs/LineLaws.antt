@@ -9,17 +9,18 @@ use native.Mathlib.Omega.{arith}
 use lib.IntN.{pos}
 use lib.Signed.{le_z}
 use Rattle.model.specs.declared.Section as sections
-use Rattle.model.specs.declared.GridSection as grid_sections
+use Rattle.model.specs.declared.three.Ranked.{Ranked}
 use Rattle.model.specs.Mappings.{Section, section_with}
 use Rattle.model.specs.Sections.{layout}
 use Rattle.model.specs.Questions.{first_no, of_section}
-use Rattle.model.specs.Grids.{Three, GridSection, single_section, sections_of, mappings_in, grid_section_with, grid_array, of_grid_section}
+use Rattle.model.specs.declared.three.Three.{Three}
+use Rattle.model.specs.Grids.{GridSection, single_section, sections_of, mappings_in, grid_section_with, grid_array, of_grid_section}
 use Rattle.model.proofs.GridAccepted.{InLimits, first-yes, second-yes, third-yes, section-limits}
 use Rattle.section.specs.declared.questions.Strided.{Strided}
 use Rattle.section.specs.Strides.{strided_of, Bounded}
 use Rattle.section.proofs.StridedSections.{bounded}
 use Rattle.grid.specs.Ranks.{single_parts}
-use Rattle.grid_section.specs.Lines.{section_to, lines_with, Limited}
+use Rattle.grid_section.specs.Lines.{sections_to, lines_with, Limited}
 
 -- ---- accepted sections of three dimensions
 
@@ -60,21 +61,21 @@ past : (up : Bool) (x : sections.Section) (sizes : List ℕ) → section_with (c
 past true x sizes = refl
 past false x sizes = refl
 
-module _ (x : grid_sections.GridSection) (b c d : List ℕ) where
+module _ (x : Ranked sections.Section) (b c d : List ℕ) where
   abbrev pub sections_with : Three Section
   sections_with = record {
-    first = section_with x.first b;
-    second = section_with (section_to x.rank (pos 2) x.second) c;
-    third = section_with (section_to x.rank (pos 3) x.third) d;
+    first = section_with x.dimensions.first b;
+    second = section_with (sections_to x).second c;
+    third = section_with (sections_to x).third d;
   }
 
   pub sections-with : sections_with ≡ sections_of (grid_section_with x b c d)
   unfolding sections_of
   sections-with =
       λ i. record {
-        first = section_with x.first b;
-        second = past (le_z (pos 2) x.rank) x.second c i;
-        third = past (le_z (pos 3) x.rank) x.third d i;
+        first = section_with x.dimensions.first b;
+        second = past (le_z (pos 2) x.rank) x.dimensions.second c i;
+        third = past (le_z (pos 3) x.rank) x.dimensions.third d i;
       }
 
   -- accepted ones have every bound

@@ -14,7 +14,8 @@ use Rattle.model.specs.Ownership.{nat}
 use Rattle.model.specs.Sections.{count, owns_at, places, first_place}
 use Rattle.model.specs.Questions.{first_no, of_section}
 use Rattle.model.specs.Axes.{paired, Axis, axis_of, owns_on, places_on, first_on, rows}
-use Rattle.model.specs.Grids.{Three, GridSection, sections_of, grid_axis, of_grid_section}
+use Rattle.model.specs.declared.three.Three.{Three}
+use Rattle.model.specs.Grids.{GridSection, sections_of, grid_axis, of_grid_section}
 use Rattle.model.specs.GridCalls.{is_place_on}
 use Rattle.model.proofs.PairLaws.{pair_of, first-lt, second_lt, pair_lt}
 use Rattle.model.proofs.RowLaws.{Sound, rows-own, first_rows, first-no-rows}
@@ -22,14 +23,14 @@ use Rattle.model.proofs.GridWalks.{section-sound}
 use Rattle.section.specs.Strides.{strided_of}
 use Rattle.section.specs.Shares.{share_of, owned_by, place_by}
 use Rattle.section.proofs.ShareLaws.{owned-by, place-by}
-use Rattle.grid_section.specs.declared.lines.Lines.{Lines}
+use Rattle.grid_section.specs.declared.lines.Line.{Line}
 use Rattle.grid_section.specs.Lines.{processors_on, Limited}
 use Rattle.grid_section.specs.Shares.{shares_on, shares_of, positions_in, first_by, owned_on, is_place_by, AllFitted}
 use Rattle.grid_section.proofs.LineLaws.{Accepted, accepted}
 
 -- ---- the shares of an accepted section's lines are in range
 
-pub all-fitted : (x : Lines) → Limited x → (b c d : List ℕ) (q : ℕ) → q < processors_on x → AllFitted (shares_on x b c d q)
+pub all-fitted : (x : Three Line) → Limited x → (b c d : List ℕ) (q : ℕ) → q < processors_on x → AllFitted (shares_on x b c d q)
 all-fitted x y b c d q h =
     let p : ℕ = x.first.section.layout.processors in
     let r : ℕ = x.second.section.layout.processors in

@@ -7,13 +7,13 @@ ghost use Rattle.std.specs.Prelude.{◌≡◌};
 ghost use Rattle.model.specs.Calls.{ToldApart};
 ghost use Rattle.model.specs.Grids.{grid_section_with};
 ghost use Rattle.model.specs.GridCalls.{grid_steps, grid_first_place};
-ghost use Rattle.section.specs.Answers.{placed_as, placed_refusals};
-ghost use Rattle.grid_section.specs.Answers.{steps_as, steps_refusals};
+ghost use Rattle.model.specs.Refusals.{refusals};
+ghost use Rattle.section.specs.Answers.{placed_as};
+ghost use Rattle.grid_section.specs.Answers.{steps_as};
 
-use lines::{AskedLines, ask_lines};
-use model::GridSection;
+use lines::ask_lines;
+use model::{GridSection, Position, Refusal, Three};
 use places::placed_on;
-use section::place::Placed;
 use steps::{GridSteps, steps_on};
 
 pub mod lines;
@@ -21,23 +21,19 @@ pub mod places;
 pub mod steps;
 
 // The count of a section, and each dimension's count and steps.
-pub fn section_steps(x: GridSection, b: &[u8], c: &[u8], d: &[u8]) -> GridSteps
-    ensures result_value { steps_as result ≡ grid_steps (grid_section_with x b.now c.now d.now) }
-    ensures told_apart { ToldApart (steps_refusals result) }
+pub fn section_steps(x: GridSection, sizes: Three<&[u8]>) -> Result<GridSteps, Refusal>
+    ensures result_value { steps_as result ≡ grid_steps (grid_section_with x sizes.entry.first.now sizes.entry.second.now sizes.entry.third.now) }
+    ensures told_apart { ToldApart (refusals result) }
 {
-    match ask_lines(x, b, c, d) {
-        AskedLines::By(s) => steps_on(s),
-        AskedLines::Refused(e) => GridSteps::Refused(e),
-    }
+    let s = ask_lines(x, sizes)?;
+    Ok(steps_on(s))
 }
 
 // The lowest position whose element the grid processor owns, or the count if there is none.
-pub fn first_place(x: GridSection, b: &[u8], c: &[u8], d: &[u8], processor: i64) -> Placed
-    ensures result_value { placed_as result ≡ grid_first_place (grid_section_with x b.now c.now d.now) processor }
-    ensures told_apart { ToldApart (placed_refusals result) }
+pub fn first_place(x: GridSection, sizes: Three<&[u8]>, processor: i64) -> Result<Position, Refusal>
+    ensures result_value { placed_as result ≡ grid_first_place (grid_section_with x sizes.entry.first.now sizes.entry.second.now sizes.entry.third.now) processor }
+    ensures told_apart { ToldApart (refusals result) }
 {
-    match ask_lines(x, b, c, d) {
-        AskedLines::By(s) => placed_on(s, b, c, d, processor),
-        AskedLines::Refused(e) => Placed::Refused(e),
-    }
+    let s = ask_lines(x, sizes)?;
+    placed_on(s, sizes, processor)
 }

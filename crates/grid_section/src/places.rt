@@ -4,50 +4,40 @@ ghost use Rattle.std.specs.Prelude.{◌≡◌, ◌<◌, pos};
 ghost use Rattle.model.specs.Mappings.{dealing_with};
 ghost use Rattle.model.specs.Questions.{is_below};
 ghost use Rattle.model.specs.Calls.{ToldApart};
+ghost use Rattle.model.specs.Refusals.{refusals};
 ghost use Rattle.mapping.specs.Parts.{Listed};
 ghost use Rattle.section.specs.Strides.{Bounded};
-ghost use Rattle.section.specs.Answers.{placed_as, placed_refusals};
+ghost use Rattle.section.specs.Answers.{placed_as};
 ghost use Rattle.grid_section.specs.Lines.{processors_on, Limited, AllListed};
 ghost use Rattle.grid_section.specs.Shares.{share_on, shares_on, positions_in, first_by, owned_on, is_place_by, AllFitted};
 ghost use Rattle.grid_section.specs.Answers.{first_place_on};
 
 use crate::lines::{Line, Lines, product_of};
 use mapping::questions::{is_below, natural};
-use model::Position;
-use section::place::Placed;
+use model::{Position, Refusal, Three};
 use section::shares::{Share, first_of, owns_at, share_of};
 
 // The shares of a grid processor's coordinates.
-#[derive(Clone, Copy)]
-pub struct Shares {
-    pub first: Share,
-    pub second: Share,
-    pub third: Share,
-}
+pub type Shares = Three<Share>;
 
 fn line_share(x: Line, sizes: &[u8], processor: u64) -> Share
     requires { Bounded x.section × Listed x.section.layout (dealing_with x.dealing sizes.now) × (processor < x.section.layout.processors) }
     ensures { result ≡ share_on x sizes.now processor }
 {
-    let w = x.section;
-    let d = x.dealing;
-    share_of(w, d, sizes, processor as i64)
+    share_of(x.section, x.dealing, sizes, processor as i64)
 }
 
 // The shares of a processor that passed question 8. The first dimension's coordinate runs fastest.
-pub fn shares_of(x: Lines, b: &[u8], c: &[u8], d: &[u8], processor: u64) -> Shares
-    requires { Limited x × AllListed x b.now c.now d.now × (processor < processors_on x) }
-    ensures { result ≡ shares_on x b.now c.now d.now processor }
+pub fn shares_of(x: Lines, sizes: Three<&[u8]>, processor: u64) -> Shares
+    requires { Limited x × AllListed x sizes.first.now sizes.second.now sizes.third.now × (processor < processors_on x) }
+    ensures { result ≡ shares_on x sizes.entry.first.now sizes.entry.second.now sizes.entry.third.now processor }
 {
-    let k = x.first;
-    let l = x.second;
-    let m = x.third;
-    let p = k.section.layout.processors;
-    let q = l.section.layout.processors;
-    Shares {
-        first: line_share(k, b, processor % p),
-        second: line_share(l, c, processor / p % q),
-        third: line_share(m, d, processor / p / q),
+    let p = x.first.section.layout.processors;
+    let q = x.second.section.layout.processors;
+    Three {
+        first: line_share(x.first, sizes.first, processor % p),
+        second: line_share(x.second, sizes.second, processor / p % q),
+        third: line_share(x.third, sizes.third, processor / p / q),
     }
 }
 
@@ -67,15 +57,12 @@ pub fn first_on(s: Shares) -> Position
     requires { AllFitted s }
     ensures { result.0 ≡ first_by s }
 {
-    let a = s.first;
-    let b = s.second;
-    let c = s.third;
-    let m = a.section.count;
-    let n = b.section.count;
-    let o = c.section.count;
-    let t = first_of(a);
-    let u = first_of(b);
-    let v = first_of(c);
+    let m = s.first.section.count;
+    let n = s.second.section.count;
+    let o = s.third.section.count;
+    let t = first_of(s.first);
+    let u = first_of(s.second);
+    let v = first_of(s.third);
     if t.0 < m && u.0 < n && v.0 < o {
         return Position(t.0 + m * (u.0 + n * v.0));
     }
@@ -87,19 +74,12 @@ fn owns_on(s: Shares, t: Position) -> bool
     requires { AllFitted s × (t.0 < positions_in s) }
     ensures { result ≡ owned_on s t.0 }
 {
-    let a = s.first;
-    let b = s.second;
-    let c = s.third;
-    let m = a.section.count;
-    let n = b.section.count;
+    let m = s.first.section.count;
+    let n = s.second.section.count;
     let row = t.0 / m;
-    if !owns_at(a, Position(t.0 % m)) {
-        return false;
-    }
-    if !owns_at(b, Position(row % n)) {
-        return false;
-    }
-    owns_at(c, Position(row / n))
+    owns_at(s.first, Position(t.0 % m))
+        && owns_at(s.second, Position(row % n))
+        && owns_at(s.third, Position(row / n))
 }
 
 // Question 10: is the place the count, or a position whose element the processor owns?
@@ -115,24 +95,18 @@ pub fn is_place(s: Shares, place: i64) -> bool
     let n = s.second.section.count;
     let o = s.third.section.count;
     let count = product_of(m, n, o);
-    if t == count {
-        return true;
-    }
-    if count < t {
-        return false;
-    }
-    owns_on(s, Position(t))
+    t == count || t < count && owns_on(s, Position(t))
 }
 
 // Question 8, and the first place of a processor that passes it.
-pub fn placed_on(x: Lines, b: &[u8], c: &[u8], d: &[u8], processor: i64) -> Placed
-    requires { Limited x × AllListed x b.now c.now d.now }
-    ensures result_value { placed_as result ≡ first_place_on x b.now c.now d.now processor }
-    ensures told_apart { ToldApart (placed_refusals result) }
+pub fn placed_on(x: Lines, sizes: Three<&[u8]>, processor: i64) -> Result<Position, Refusal>
+    requires { Limited x × AllListed x sizes.first.now sizes.second.now sizes.third.now }
+    ensures result_value { placed_as result ≡ first_place_on x sizes.entry.first.now sizes.entry.second.now sizes.entry.third.now processor }
+    ensures told_apart { ToldApart (refusals result) }
 {
     if !is_processor(x, processor) {
-        return Placed::Refused(8);
+        return Err(Refusal::Processor);
     }
-    let s = shares_of(x, b, c, d, natural(processor));
-    Placed::At(first_on(s))
+    let s = shares_of(x, sizes, natural(processor));
+    Ok(first_on(s))
 }

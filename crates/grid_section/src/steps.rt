@@ -1,47 +1,43 @@
 // The count of an accepted section of a grid, and each dimension's steps.
 ghost use Rattle.std.specs.Prelude.{◌≡◌};
-ghost use Rattle.model.specs.Calls.{ToldApart};
 ghost use Rattle.section.specs.Strides.{Bounded};
 ghost use Rattle.section.specs.Answers as section;
 ghost use Rattle.grid_section.specs.Lines.{Limited};
-ghost use Rattle.grid_section.specs.Answers.{steps_as, steps_refusals, report_on, steps_on};
+ghost use Rattle.grid_section.specs.Answers.{report_as, report_on, steps_on};
 
 use crate::lines::{Line, Lines, product_of};
+use model::Three;
 use section::report::{SectionSteps, report_of};
 use section::steps::steps_by;
 
-// The count of the section and each dimension's report, or the refusal.
+// The count of the section, and each dimension's report.
 #[derive(Clone, Copy)]
-pub enum GridSteps {
-    By(u64, SectionSteps, SectionSteps, SectionSteps),
-    Refused(u32),
+pub struct GridSteps {
+    pub count: u64,
+    pub dimensions: Three<SectionSteps>,
 }
 
 fn report_on(x: Line) -> SectionSteps
     requires { Bounded x.section }
-    ensures result_value { section.steps_as result ≡ report_on x }
-    ensures told_apart { ToldApart (section.steps_refusals result) }
+    ensures { section.report_as result ≡ report_on x }
 {
-    let w = x.section;
-    let d = x.dealing;
-    report_of(w.count, steps_by(w, d))
+    report_of(x.section.count, steps_by(x.section, x.dealing))
 }
 
 pub fn steps_on(x: Lines) -> GridSteps
     requires { Limited x }
-    ensures result_value { steps_as result ≡ steps_on x }
-    ensures told_apart { ToldApart (steps_refusals result) }
+    ensures { report_as result ≡ steps_on x }
 {
-    let a = x.first;
-    let b = x.second;
-    let c = x.third;
-    let v = a.section;
-    let w = b.section;
-    let y = c.section;
-    GridSteps::By(
-        product_of(v.count, w.count, y.count),
-        report_on(a),
-        report_on(b),
-        report_on(c),
-    )
+    GridSteps {
+        count: product_of(
+            x.first.section.count,
+            x.second.section.count,
+            x.third.section.count,
+        ),
+        dimensions: Three {
+            first: report_on(x.first),
+            second: report_on(x.second),
+            third: report_on(x.third),
+        },
+    }
 }

@@ -1,6 +1,6 @@
 -- Every number of an answer fits its field of the C header: those of a mapping by model's `AnswerLaws`, the others here.
 use Prim.Native.Nat.{ℕ, ◌≤◌}
-use mathlib.Core.Path.{◌≡◌, refl, sym, subst}
+use mathlib.Core.Path.{◌≡◌, refl}
 use mathlib.Core.Bool.{Bool, true, false, cond}
 use mathlib.Core.List.{◌++◌}
 use native.Mathlib.Nat.{le_refl}
@@ -33,10 +33,6 @@ use Rattle.section.specs.Strides.{strided_of}
 use Rattle.section.proofs.StridedSections.{bounded}
 use Rattle.fill.specs.Answers.{report_of}
 use Rattle.hpfaddr.specs.Sizes.{In32, In64, StepFits, StepsFit, PlacedFits, FilledFits, TransferredFits, CopiedFits}
-
--- an answer that is the definition's is as small as the definition's
-pub with_size : {A : Type 0} (P : A → Type 0) {a b : A} → a ≡ b → P b → (a ≡ b) × P a
-with_size P e h = (e, subst P (sym e) h)
 
 pub count_small : (x : Section) → first_no (of_section x) ≡ 0 → count x ≤ 2147483647
 unfolding strided_of

@@ -13,7 +13,8 @@ use Rattle.model.specs.Steps.{steps_of}
 use Rattle.model.specs.Filling.{Filled, answer}
 use Rattle.model.specs.Questions.{first_no, of_section}
 use Rattle.model.specs.Axes.{Axis, owns_on, places_on, first_on, walk_on}
-use Rattle.model.specs.Grids.{Three, GridSection, sections_of, grid_axis, of_grid_section, of_grid_processor}
+use Rattle.model.specs.declared.three.Three.{Three}
+use Rattle.model.specs.Grids.{GridSection, sections_of, grid_axis, of_grid_section, of_grid_processor}
 use Rattle.model.specs.Calls.{steps_report}
 use Rattle.model.specs.GridCalls.{grid_steps, of_grid_place, grid_first_place, GridFill, of_grid_fill, grid_request_of, grid_fill}
 use Rattle.model.proofs.QuestionLaws.{both_yes}

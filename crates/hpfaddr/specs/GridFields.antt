@@ -3,11 +3,11 @@
 use Rattle.std.specs.Prelude.{ℕ, ◌≡◌, List, ℤ, pos, get_or}
 use Rattle.model.specs.declared.Mapping as mappings
 use Rattle.model.specs.declared.Section as sections
-use Rattle.model.specs.declared.Grid as grids
-use Rattle.model.specs.declared.GridSection as grid_sections
+use Rattle.model.specs.declared.three.Ranked.{Ranked}
 use Rattle.model.specs.Mappings.{Mapping, Section}
 use Rattle.model.specs.Sections.{triplet_of}
-use Rattle.model.specs.Grids.{Three, Grid, GridSection}
+use Rattle.model.specs.declared.three.Three.{Three}
+use Rattle.model.specs.Grids.{Grid, GridSection}
 use Rattle.model.specs.ByteFills.{in_words}
 use Rattle.model.specs.GridCalls.{GridBackAnswer, GridStepsAnswer, GridByteFill, grid_fill, grid_bytes_after}
 use Rattle.mapping.specs.Answers.{mapping_of}
@@ -63,12 +63,14 @@ dimension_numbers d =
     numbers_of d.cells d.processors (dealing_from d.dealing d.block) d.stride d.offset d.size d.array_lower
     d.template_lower
 
-abbrev pub grid_numbers : HpfGrid → grids.Grid
+abbrev pub grid_numbers : HpfGrid → Ranked mappings.Mapping
 grid_numbers g = record {
   rank = g.rank;
-  first = dimension_numbers (dimension_at g 0);
-  second = dimension_numbers (dimension_at g 1);
-  third = dimension_numbers (dimension_at g 2);
+  dimensions = record {
+    first = dimension_numbers (dimension_at g 0);
+    second = dimension_numbers (dimension_at g 1);
+    third = dimension_numbers (dimension_at g 2);
+  };
 }
 
 abbrev pub grid_found_fields : HpfGridFound → GridBackAnswer
@@ -98,12 +100,14 @@ grid_section_from x b c d =
 abbrev pub dimension_section : HpfDimension → HpfTriplet → sections.Section
 dimension_section d t = record { mapping = dimension_numbers d; triplet = triplet_of t.lower t.upper t.stride }
 
-abbrev pub grid_section_numbers : HpfGridSection → grid_sections.GridSection
+abbrev pub grid_section_numbers : HpfGridSection → Ranked sections.Section
 grid_section_numbers x = record {
   rank = x.grid.rank;
-  first = dimension_section (dimension_at x.grid 0) (triplet_at x 0);
-  second = dimension_section (dimension_at x.grid 1) (triplet_at x 1);
-  third = dimension_section (dimension_at x.grid 2) (triplet_at x 2);
+  dimensions = record {
+    first = dimension_section (dimension_at x.grid 0) (triplet_at x 0);
+    second = dimension_section (dimension_at x.grid 1) (triplet_at x 1);
+    third = dimension_section (dimension_at x.grid 2) (triplet_at x 2);
+  };
 }
 
 -- the steps at place i of the three

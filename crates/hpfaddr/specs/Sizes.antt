@@ -2,7 +2,7 @@
 -- `hpf_steps` `int64_t`, so that the highest bit stays free. Definitions only.
 use Rattle.std.specs.Prelude.{ℕ, ◌^◌, ◌<◌, ℤ, nat_abs}
 use Rattle.model.specs.Calls.{OwnershipAnswer, GoingBackAnswer, LocalCountAnswer, StepReport, SectionStepsAnswer, PlaceAnswer}
-use Rattle.model.specs.Grids.{Three}
+use Rattle.model.specs.declared.three.Three.{Three}
 use Rattle.model.specs.GridCalls.{GridBackAnswer, GridStepsAnswer}
 use Rattle.model.specs.Transfers.{TransferAnswer}
 use Rattle.model.specs.Checkpoints.{CopyAnswer}

@@ -1,4 +1,5 @@
-// The C function of array assignments: the transfers of a sender and a receiver.
+// The C function of array assignments: the transfers of a sender and a receiver. The C interface lists
+// the numbers of both sides.
 ghost use Rattle.std.specs.Prelude.{◌≡◌};
 ghost use Rattle.model.specs.Mappings.{cyclic, section_with};
 ghost use Rattle.transfer.specs.Answers.{call_of, lists_of, transferred_as};
@@ -6,8 +7,7 @@ ghost use Rattle.hpfaddr.specs.Fields.{section_from, transferred_fields, Transfe
 ghost use Rattle.hpfaddr.specs.Sizes.{TransferredFits};
 
 use crate::parameters::{mapping_of, section_of};
-use model::{Dealing, Section};
-use transfer::listing::Transferred;
+use model::{Dealing, ListError, Section};
 
 #[repr(C)]
 #[derive(Clone, Copy)]
@@ -17,23 +17,24 @@ pub struct HpfTransferred {
     pub needed: u32,
 }
 
-fn fields_of(t: Transferred) -> HpfTransferred
+// Not a `From`, which may require nothing: the number has to fit its field.
+fn fields_of(t: Result<usize, ListError>) -> HpfTransferred
     requires { TransferredFits (transferred_as t) }
     ensures { transferred_fields result ≡ transferred_as t }
 {
     match t {
-        Transferred::Entries(n) => HpfTransferred {
+        Ok(n) => HpfTransferred {
             refusal: 0,
             entries: n as u32,
             needed: 0,
         },
-        Transferred::Needs(n) => HpfTransferred {
+        Err(ListError::Needs(n)) => HpfTransferred {
             refusal: 13,
             entries: 0,
             needed: n as u32,
         },
-        Transferred::Refused(e) => HpfTransferred {
-            refusal: e,
+        Err(ListError::Refused(e)) => HpfTransferred {
+            refusal: e.number(),
             entries: 0,
             needed: 0,
         },

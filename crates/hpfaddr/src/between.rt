@@ -1,4 +1,5 @@
-// The C function of array assignments between templates of either dealing.
+// The C function of array assignments between templates of either dealing. The C interface lists the
+// numbers of both sides.
 ghost use Rattle.transfer.specs.Answers.{call_of, lists_of};
 ghost use Rattle.hpfaddr.specs.Fields.{by_number, section_from, transferred_fields, TransferredFields};
 ghost use Rattle.hpfaddr.specs.Sizes.{TransferredFits};

@@ -1,5 +1,5 @@
 // The C functions of checkpoints: an array's words in index order, and back to the storage of a
-// mapping.
+// mapping, whose numbers the C interface lists in each.
 ghost use Rattle.std.specs.Prelude.{◌≡◌};
 ghost use Rattle.model.specs.Mappings.{cyclic, mapping_with};
 ghost use Rattle.model.specs.Checkpoints.{copy_of};
@@ -9,8 +9,7 @@ ghost use Rattle.hpfaddr.specs.Fields.{copied_fields, CheckpointFields, RestoreF
 ghost use Rattle.hpfaddr.specs.Sizes.{CopiedFits};
 
 use crate::parameters::mapping_of;
-use model::{Dealing, Mapping};
-use storage::Copied;
+use model::{Dealing, ListError, Mapping};
 
 #[repr(C)]
 #[derive(Clone, Copy)]
@@ -19,21 +18,22 @@ pub struct HpfCopied {
     pub needed: u32,
 }
 
-fn fields_of(c: Copied) -> HpfCopied
+// Not a `From`, which may require nothing: the number has to fit its field.
+fn fields_of(c: Result<(), ListError>) -> HpfCopied
     requires { CopiedFits (copied_as c) }
     ensures { copied_fields result ≡ copied_as c }
 {
     match c {
-        Copied::Whole => HpfCopied {
+        Ok(()) => HpfCopied {
             refusal: 0,
             needed: 0,
         },
-        Copied::Needs(n) => HpfCopied {
+        Err(ListError::Needs(n)) => HpfCopied {
             refusal: 13,
             needed: n as u32,
         },
-        Copied::Refused(e) => HpfCopied {
-            refusal: e,
+        Err(ListError::Refused(e)) => HpfCopied {
+            refusal: e.number(),
             needed: 0,
         },
     }

@@ -1,5 +1,5 @@
 // The C functions of a mapping and of checkpoints for GEN_BLOCK templates: a list of sizes, as bytes,
-// stands where the cyclic ones have the block.
+// stands where the cyclic ones have the block. They are twins of these, for the C interface.
 ghost use Rattle.std.specs.Prelude.{◌≡◌};
 ghost use Rattle.model.specs.Calls.{ownership, going_back, local_count};
 ghost use Rattle.model.specs.Checkpoints.{copy_of};

@@ -1,4 +1,5 @@
-// The C functions of sections and fills for GEN_BLOCK templates.
+// The C functions of sections and fills for GEN_BLOCK templates, twins of the cyclic ones in
+// sections.rt for the C interface.
 ghost use Rattle.std.specs.Prelude.{◌≡◌};
 ghost use Rattle.model.specs.Calls.{section_steps, first_place_at};
 ghost use Rattle.hpfaddr.specs.Fields.{by_sizes, steps_fields, placed_fields, section_from, fill_of, filled_fields, FilledFields};

@@ -8,11 +8,9 @@ ghost use Rattle.hpfaddr.specs.Sizes.{GridStepsFit, PlacedFits, FilledFits};
 
 use crate::grids::{HpfDimension, HpfGrid, dimension_of};
 use crate::parameters::section_of;
-use crate::sections::{
-    HpfFilled, HpfPlaced, HpfSteps, fields_of, fields_of_place, fields_of_steps, no_step,
-};
+use crate::sections::{HpfFilled, HpfPlaced, HpfSteps, fields_of, fields_of_place, no_step};
 use grid_section::steps::GridSteps;
-use model::{GridSection, Section};
+use model::{GridSection, Refusal, Section, Three};
 
 #[repr(C)]
 #[derive(Clone, Copy)]
@@ -49,9 +47,11 @@ fn grid_section_of(x: HpfGridSection) -> GridSection
     let v = ts[2];
     GridSection {
         rank: g.rank,
-        first: dimension_section(d, t),
-        second: dimension_section(e, u),
-        third: dimension_section(f, v),
+        dimensions: Three {
+            first: dimension_section(d, t),
+            second: dimension_section(e, u),
+            third: dimension_section(f, v),
+        },
     }
 }
 
@@ -63,20 +63,26 @@ pub struct HpfGridSteps {
     pub dimensions: [HpfSteps; 3],
 }
 
-fn fields_of_grid(s: GridSteps) -> HpfGridSteps
-    ensures { grid_steps_fields result ≡ steps_as s }
-{
-    match s {
-        GridSteps::By(n, a, b, c) => HpfGridSteps {
-            refusal: 0,
-            count: n,
-            dimensions: [fields_of_steps(a), fields_of_steps(b), fields_of_steps(c)],
-        },
-        GridSteps::Refused(e) => HpfGridSteps {
-            refusal: e as u64,
-            count: 0,
-            dimensions: [no_step(0, 0), no_step(0, 0), no_step(0, 0)],
-        },
+impl From<Result<GridSteps, Refusal>> for HpfGridSteps {
+    ghost from_gives = { λ s r. grid_steps_fields r ≡ steps_as s };
+
+    fn from(steps: Result<GridSteps, Refusal>) -> HpfGridSteps {
+        match steps {
+            Ok(s) => HpfGridSteps {
+                refusal: 0,
+                count: s.count,
+                dimensions: [
+                    s.dimensions.first.into(),
+                    s.dimensions.second.into(),
+                    s.dimensions.third.into(),
+                ],
+            },
+            Err(e) => HpfGridSteps {
+                refusal: u64::from(e.number()),
+                count: 0,
+                dimensions: [no_step(0, 0); 3],
+            },
+        }
     }
 }
 
@@ -92,7 +98,12 @@ pub extern "C" fn hpf_grid_section_steps(
     ensures grid_steps_fit { GridStepsFit (grid_steps_fields result) }
 {
     let y = grid_section_of(x);
-    fields_of_grid(grid_section::section_steps(y, first_sizes, second_sizes, third_sizes))
+    let sizes = Three {
+        first: first_sizes,
+        second: second_sizes,
+        third: third_sizes,
+    };
+    HpfGridSteps::from(grid_section::section_steps(y, sizes))
 }
 
 // The lowest position whose element a grid processor owns, or the count.
@@ -108,7 +119,12 @@ pub extern "C" fn hpf_grid_first_place(
     ensures placed_fits { PlacedFits (placed_fields result) }
 {
     let y = grid_section_of(x);
-    fields_of_place(grid_section::first_place(y, first_sizes, second_sizes, third_sizes, processor))
+    let sizes = Three {
+        first: first_sizes,
+        second: second_sizes,
+        third: third_sizes,
+    };
+    fields_of_place(grid_section::first_place(y, sizes, processor))
 }
 
 // A fill of a list of bytes, 4 to an address, lowest first.
@@ -127,14 +143,10 @@ pub extern "C" fn hpf_grid_fill(
     ensures filled_fits { FilledFits (filled_fields result) }
 {
     let y = grid_section_of(x);
-    fields_of(grid_fill::fill_into_bytes(
-        y,
-        first_sizes,
-        second_sizes,
-        third_sizes,
-        processor,
-        place,
-        quota,
-        list,
-    ))
+    let sizes = Three {
+        first: first_sizes,
+        second: second_sizes,
+        third: third_sizes,
+    };
+    fields_of(grid_fill::fill_into_bytes(y, sizes, processor, place, quota, list))
 }

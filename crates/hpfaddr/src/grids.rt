@@ -1,5 +1,6 @@
 // The C functions of arrays on grids of processors: a struct of numbers for each dimension, and beside
-// it a list of sizes, which is looked at where the dimension is dealt by one.
+// it a list of sizes, which is looked at where the dimension is dealt by one. The C interface has these
+// structs, and names the three lists one by one.
 ghost use Rattle.std.specs.Prelude.{◌≡◌};
 ghost use Rattle.model.specs.GridCalls.{grid_ownership, grid_going_back};
 ghost use Rattle.grid.specs.Answers.{indices_from, found_as};
@@ -9,8 +10,8 @@ ghost use Rattle.hpfaddr.specs.Sizes.{OwnedFits, GridFoundFits};
 
 use crate::parameters::{dealing_of, mapping_of};
 use crate::{HpfOwned, fields_of};
-use grid::elements::Found;
-use model::{Grid, Mapping};
+use grid::elements::Indices;
+use model::{Grid, Mapping, Refusal, Three};
 
 #[repr(C)]
 #[derive(Clone, Copy)]
@@ -57,9 +58,11 @@ fn grid_of(g: HpfGrid) -> Grid
     let third = ds[2];
     Grid {
         rank: g.rank,
-        first: dimension_of(first),
-        second: dimension_of(second),
-        third: dimension_of(third),
+        dimensions: Three {
+            first: dimension_of(first),
+            second: dimension_of(second),
+            third: dimension_of(third),
+        },
     }
 }
 
@@ -78,15 +81,17 @@ pub extern "C" fn hpf_grid_ownership(
     ensures owned_fits { OwnedFits (owned_fields result) }
 {
     let x = grid_of(g);
-    fields_of(grid::ownership(
-        x,
-        first_sizes,
-        second_sizes,
-        third_sizes,
+    let sizes = Three {
+        first: first_sizes,
+        second: second_sizes,
+        third: third_sizes,
+    };
+    let indices = Three {
         first,
         second,
         third,
-    ))
+    };
+    fields_of(grid::ownership(x, sizes, indices))
 }
 
 #[repr(C)]
@@ -98,19 +103,20 @@ pub struct HpfGridFound {
     pub third: i32,
 }
 
-fn fields_of_found(f: Found) -> HpfGridFound
+// Not a `From`, which may require nothing: the indices have to fit their fields.
+fn fields_of_found(f: Result<Indices, Refusal>) -> HpfGridFound
     requires { GridFoundFits (found_as f) }
     ensures { grid_found_fields result ≡ found_as f }
 {
     match f {
-        Found::At(i, j, k) => HpfGridFound {
+        Ok(x) => HpfGridFound {
             refusal: 0,
-            first: i.0 as i32,
-            second: j.0 as i32,
-            third: k.0 as i32,
+            first: x.first.0 as i32,
+            second: x.second.0 as i32,
+            third: x.third.0 as i32,
         },
-        Found::Refused(e) => HpfGridFound {
-            refusal: e,
+        Err(e) => HpfGridFound {
+            refusal: e.number(),
             first: 0,
             second: 0,
             third: 0,
@@ -132,12 +138,10 @@ pub extern "C" fn hpf_grid_going_back(
     ensures grid_found_fits { GridFoundFits (grid_found_fields result) }
 {
     let x = grid_of(g);
-    fields_of_found(grid::going_back(
-        x,
-        first_sizes,
-        second_sizes,
-        third_sizes,
-        processor,
-        address,
-    ))
+    let sizes = Three {
+        first: first_sizes,
+        second: second_sizes,
+        third: third_sizes,
+    };
+    fields_of_found(grid::going_back(x, sizes, processor, address))
 }

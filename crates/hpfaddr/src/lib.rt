@@ -3,7 +3,8 @@
 // sections and fills, in assignment.rt and between.rt those of transfers, in checkpoints.rt those of
 // checkpoints, each for a cyclic template; in gen_block.rt and gen_block_sections.rt the same for
 // GEN_BLOCK; in grids.rt and grid_sections.rt those of grids of processors. include/ and fortran/
-// declare them.
+// declare them. It is the C interface that has a function for either dealing, lists a mapping's
+// numbers in each and has each make its mapping of them.
 #![tactic(auto)]
 
 ghost use Rattle.std.specs.Prelude.{◌≡◌};
@@ -13,8 +14,8 @@ ghost use Rattle.mapping.specs.Answers.{mapping_of, owned_as};
 ghost use Rattle.hpfaddr.specs.Fields.{owned_fields, found_fields, counted_fields};
 ghost use Rattle.hpfaddr.specs.Sizes.{OwnedFits, FoundFits, CountedFits};
 
-use mapping::{Counted, Found, Owned};
-use model::{Dealing, Mapping};
+use mapping::parts::Home;
+use model::{Dealing, Mapping, Refusal};
 use parameters::mapping_of;
 
 pub mod assignment;
@@ -35,18 +36,19 @@ pub struct HpfOwned {
     pub address: u32,
 }
 
-pub(crate) fn fields_of(o: Owned) -> HpfOwned
+// Not a `From`, which may require nothing: the numbers have to fit their fields.
+pub(crate) fn fields_of(o: Result<Home, Refusal>) -> HpfOwned
     requires { OwnedFits (owned_as o) }
     ensures { owned_fields result ≡ owned_as o }
 {
     match o {
-        Owned::At { processor, address } => HpfOwned {
+        Ok(home) => HpfOwned {
             refusal: 0,
-            processor: processor as u32,
-            address: address.0 as u32,
+            processor: home.processor as u32,
+            address: home.address.0 as u32,
         },
-        Owned::Refused(e) => HpfOwned {
-            refusal: e,
+        Err(e) => HpfOwned {
+            refusal: e.number(),
             processor: 0,
             address: 0,
         },
@@ -98,17 +100,18 @@ pub struct HpfFound {
     pub index: i32,
 }
 
+// Not a `From`, as `fields_of` is none.
 pub(crate) fn found_of(m: Mapping, sizes: &[u8], processor: i64, address: i64) -> HpfFound
     ensures result_value { found_fields result ≡ going_back (mapping_with m sizes.now) processor address }
     ensures found_fits { FoundFits (found_fields result) }
 {
     match mapping::going_back(m, sizes, processor, address) {
-        Found::At(j) => HpfFound {
+        Ok(j) => HpfFound {
             refusal: 0,
             index: j.0 as i32,
         },
-        Found::Refused(e) => HpfFound {
-            refusal: e,
+        Err(e) => HpfFound {
+            refusal: e.number(),
             index: 0,
         },
     }
@@ -153,17 +156,18 @@ pub struct HpfCounted {
     pub elements: u32,
 }
 
+// Not a `From`, as `fields_of` is none.
 pub(crate) fn counted_of(m: Mapping, sizes: &[u8], processor: i64) -> HpfCounted
     ensures result_value { counted_fields result ≡ local_count (mapping_with m sizes.now) processor }
     ensures counted_fits { CountedFits (counted_fields result) }
 {
     match mapping::local_count(m, sizes, processor) {
-        Counted::Elements(n) => HpfCounted {
+        Ok(n) => HpfCounted {
             refusal: 0,
             elements: n as u32,
         },
-        Counted::Refused(e) => HpfCounted {
-            refusal: e,
+        Err(e) => HpfCounted {
+            refusal: e.number(),
             elements: 0,
         },
     }

@@ -1,11 +1,13 @@
-// The mapping and the section that a C function's numbers make.
+// The mapping and the section that a C function's numbers make. These stand one by one here too, as
+// they come from C.
 ghost use Rattle.std.specs.Prelude.{◌≡◌};
 ghost use Rattle.model.specs.Sections.{triplet_of};
 ghost use Rattle.hpfaddr.specs.Fields.{dealing_from, numbers_of};
 
 use model::{Dealing, Mapping, Section, Triplet};
 
-// The dealing that a number says: 0 cyclic, any other GEN_BLOCK.
+// The dealing that a number says: 0 cyclic, any other GEN_BLOCK. C passes a number and no enum, which
+// could have no other value.
 pub fn dealing_of(number: i64, block: i64) -> Dealing
     ensures { result ≡ dealing_from number block }
 {

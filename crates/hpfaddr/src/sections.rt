@@ -1,17 +1,17 @@
-// The C functions of sections and fills.
+// The C functions of sections and fills. The C interface lists the numbers of a mapping and a section
+// in each, and has a form of each for either dealing.
 ghost use Rattle.std.specs.Prelude.{◌≡◌};
 ghost use Rattle.model.specs.Mappings.{cyclic, section_with};
 ghost use Rattle.model.specs.Calls.{no_report, section_steps, first_place_at};
-ghost use Rattle.section.specs.Answers.{step_as, steps_as, placed_as};
-ghost use Rattle.fill.specs.Answers.{report_as};
+ghost use Rattle.section.specs.Answers.{step_as, report_as, placed_as};
+ghost use Rattle.fill.specs.Answers as fill;
 ghost use Rattle.hpfaddr.specs.Fields.{steps_fields, placed_fields, section_from, fill_of, filled_fields, FilledFields};
 ghost use Rattle.hpfaddr.specs.Sizes.{StepsFit, PlacedFits, FilledFits};
 
 use crate::parameters::{mapping_of, section_of};
-use fill::Filled;
-use model::{Dealing, Section};
-use section::place::Placed;
+use model::{Dealing, Position, Refusal, Section};
 use section::report::{Reported, SectionSteps};
+use walk::moves::Report;
 
 #[repr(C)]
 #[derive(Clone, Copy)]
@@ -27,19 +27,18 @@ pub struct HpfSteps {
     pub return_column: i64,
 }
 
-// A step that there is not.
+// A step that there is not: its fields are 0.
 const NOT_THERE: Reported = Reported {
     cells: 0,
     courses: 0,
     column: 0,
 };
 
-// The fields of one step, or of two; those of a step that there is not are 0.
-fn step_fields(count: u64, steps: u64, step: Reported, back: Reported) -> HpfSteps
-    ensures { steps_fields result ≡ record { refusal = 0; count = count; steps = steps; first = step_as step; second = step_as back } }
+fn step_fields(refusal: u64, count: u64, steps: u64, step: Reported, back: Reported) -> HpfSteps
+    ensures { steps_fields result ≡ record { refusal = refusal; count = count; steps = steps; first = step_as step; second = step_as back } }
 {
     HpfSteps {
-        refusal: 0,
+        refusal,
         count,
         steps,
         cells: step.cells,
@@ -54,27 +53,18 @@ fn step_fields(count: u64, steps: u64, step: Reported, back: Reported) -> HpfSte
 pub(crate) fn no_step(refusal: u32, count: u64) -> HpfSteps
     ensures { steps_fields result ≡ record { refusal = refusal; count = count; steps = 0; first = no_report; second = no_report } }
 {
-    HpfSteps {
-        refusal: refusal as u64,
-        count,
-        steps: 0,
-        cells: 0,
-        courses: 0,
-        column: 0,
-        return_cells: 0,
-        return_courses: 0,
-        return_column: 0,
-    }
+    step_fields(u64::from(refusal), count, 0, NOT_THERE, NOT_THERE)
 }
 
-pub(crate) fn fields_of_steps(s: SectionSteps) -> HpfSteps
-    ensures { steps_fields result ≡ steps_as s }
-{
-    match s {
-        SectionSteps::NoStep(n) => no_step(0, n),
-        SectionSteps::OneStep(n, r) => step_fields(n, 1, r, NOT_THERE),
-        SectionSteps::TwoSteps(n, r, w) => step_fields(n, 2, r, w),
-        SectionSteps::Refused(e) => no_step(e, 0),
+impl From<SectionSteps> for HpfSteps {
+    ghost from_gives = { λ s r. steps_fields r ≡ report_as s };
+
+    fn from(s: SectionSteps) -> HpfSteps {
+        match s {
+            SectionSteps::NoStep(n) => no_step(0, n),
+            SectionSteps::OneStep(n, r) => step_fields(0, n, 1, r, NOT_THERE),
+            SectionSteps::TwoSteps(n, r, w) => step_fields(0, n, 2, r, w),
+        }
     }
 }
 
@@ -82,7 +72,10 @@ pub(crate) fn steps_of(x: Section, sizes: &[u8]) -> HpfSteps
     ensures result_value { steps_fields result ≡ section_steps (section_with x sizes.now) }
     ensures steps_fit { StepsFit (steps_fields result) }
 {
-    fields_of_steps(section::section_steps(x, sizes))
+    match section::section_steps(x, sizes) {
+        Ok(s) => HpfSteps::from(s),
+        Err(e) => no_step(e.number(), 0),
+    }
 }
 
 // The count of a section and its steps: the processor step, or the one step, and the
@@ -127,17 +120,18 @@ pub struct HpfPlaced {
     pub place: u32,
 }
 
-pub(crate) fn fields_of_place(p: Placed) -> HpfPlaced
+// Not a `From`, which may require nothing: the place has to fit its field.
+pub(crate) fn fields_of_place(p: Result<Position, Refusal>) -> HpfPlaced
     requires { PlacedFits (placed_as p) }
     ensures { placed_fields result ≡ placed_as p }
 {
     match p {
-        Placed::At(t) => HpfPlaced {
+        Ok(t) => HpfPlaced {
             refusal: 0,
             place: t.0 as u32,
         },
-        Placed::Refused(e) => HpfPlaced {
-            refusal: e,
+        Err(e) => HpfPlaced {
+            refusal: e.number(),
             place: 0,
         },
     }
@@ -194,19 +188,20 @@ pub struct HpfFilled {
     pub place: u32,
 }
 
-pub(crate) fn fields_of(f: Filled) -> HpfFilled
-    requires { FilledFits (report_as f) }
-    ensures { filled_fields result ≡ report_as f }
+// Not a `From`, which may require nothing: the numbers have to fit their fields.
+pub(crate) fn fields_of(f: Result<Report, Refusal>) -> HpfFilled
+    requires { FilledFits (fill.report_as f) }
+    ensures { filled_fields result ≡ fill.report_as f }
 {
     match f {
-        Filled::Done(r) => HpfFilled {
+        Ok(r) => HpfFilled {
             refusal: 0,
             entries: r.entries as u32,
             tries: r.tries as u32,
             place: r.place.0 as u32,
         },
-        Filled::Refused(e) => HpfFilled {
-            refusal: e,
+        Err(e) => HpfFilled {
+            refusal: e.number(),
             entries: 0,
             tries: 0,
             place: 0,

@@ -25,9 +25,9 @@ fn main(rt: HostRuntime) -> io::Result<()> {
     let opened = print::begin(&sheet, n, &mut out);
     let content = opened.content;
     let mut piece = opened.piece;
+    // Not a `for`: a piece is borrowed from `out`, into which the next one is written.
     while 0 < piece.bytes {
-        let end = piece.bytes;
-        rt.write_all(&out[..end])?;
+        rt.write_all(&out[..piece.bytes])?;
         piece = print::go_on(content, piece, &mut list, &mut out);
     }
     Ok(())

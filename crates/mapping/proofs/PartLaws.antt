@@ -1,6 +1,6 @@
 -- What a processor has of an array in its part of the template: in a run the elements are one run of indices. Assumes nothing.
 use Prim.Native.Nat.{ℕ, suc, ◌-◌, ◌≤◌, ◌<◌}
-use mathlib.Core.Path.{◌≡◌, refl, sym}
+use mathlib.Core.Path.{◌≡◌, refl, sym, ap, ◌∙◌, subst}
 use mathlib.Core.List.{List}
 use native.Mathlib.Decide.{dec_lt}
 use native.Mathlib.Nat.{mul-le-mul_left}
@@ -20,6 +20,7 @@ use Rattle.model.specs.Ownership.{nat, cell_of, owner_of, run_start, run_sizes, 
 use Rattle.model.specs.Sized.{Sized}
 use Rattle.model.proofs.RunOwners.{owner-run, run-owner, next_start}
 use Rattle.model.proofs.OneRun.{OneRun, run-all, run-back}
+use Rattle.mapping.specs.declared.parts.Part.{Part}
 use Rattle.mapping.specs.Parts.{part_in, index_from, held_in, found_in, owner_for, Listed}
 
 module _ (l : Layout) (s : Sized l) where
@@ -118,3 +119,14 @@ covered l s (gen_block sizes left) e =
     let a = eqb (length sizes) l.processors in
     let b = eqb left 0 in
     leb-true l.cells (sum (run_sizes sizes)) (both_true (a && b && each_natural sizes) (leb l.cells (sum (run_sizes sizes))) e).1
+
+-- what a call's answers about a part say of the dealing
+module _ (l : Layout) (s : Sized l) (d : Dealing) (m : Listed l d) (q : ℕ) {n : ℕ} {part : Part} (e : n ≡ held_in l q part) (is : part ≡ part_in d q) where
+  pub part-held : n ≡ held (owner_for l d) l.size q
+  part-held = e ∙ ap (held_in l q) is ∙ held-part l s d (covered l s d m) q
+
+  pub part-found : {x i : ℕ} → x < n → i ≡ found_in l q part x → i ≡ back_to (owner_for l d) l.size q x
+  part-found {x} h f =
+      f
+      ∙ ap (λ (p : Part). found_in l q p x) is
+      ∙ found_part l s d (covered l s d m) q x (subst (λ (k : ℕ). x < k) (e ∙ ap (held_in l q) is) h)

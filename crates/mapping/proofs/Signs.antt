@@ -1,9 +1,9 @@
 -- The sign of a number, the natural number that it is, and what the machine's answers say of a parameter.
 use Prim.Native.Nat.{ℕ, suc, zero-le, ◌≤◌, ◌<◌}
 use mathlib.Core.Path.{◌≡◌, refl, sym, ◌∙◌}
-use mathlib.Core.Bool.{Bool, true, false, not, false≢true}
+use mathlib.Core.Bool.{Bool, true, false, false≢true}
 use native.Mathlib.Omega.{arith}
-use borrow.Author.Tests.{ne_eqb, ltb-true, le-leb, not-true, not-false}
+use borrow.Author.Tests.{ne_eqb, ltb-true, le-leb}
 use lib.Dec.{T, eqb, ltb}
 use lib.IntN.{ℤ, pos, negsuc, nat_abs}
 use lib.Signed.{lt_z, non_neg}
@@ -45,12 +45,8 @@ natural-inside (pos c) n e = rw (le-leb 0 c zero-le)
 natural-inside (negsuc c) n e = absurd (false≢true (sym e))
 
 -- an answer about a parameter, from what the call ensures and the branch that was taken
-module _ {f : Bool} (test : ℤ → Bool) (z : ℤ) (fits : SFits w64 z) (e : f ≡ test (back w64 z)) where
-  pub said-no : not f ≡ true → test z ≡ false
-  said-no t = sym (read_of w64 test z fits e) ∙ not-true f t
-
-  pub said-yes : not f ≡ false → test z ≡ true
-  said-yes t = sym (read_of w64 test z fits e) ∙ not-false f t
+pub answered : {f a : Bool} (test : ℤ → Bool) (z : ℤ) → SFits w64 z → f ≡ test (back w64 z) → f ≡ a → test z ≡ a
+answered test z fits e t = sym (read_of w64 test z fits e) ∙ t
 
 -- a bound in range is read back as the number it is
 pub bound-read : (z : ℤ) → nat_abs z ≤ 2147483647 → back w64 z ≡ z
@@ -60,3 +56,6 @@ bound-read z h = to_z-of_z w64 z (small-fits w64 z (omega arith))
 pub below-natural : (z : ℤ) (n : ℕ) {r : ℕ} → SFits w64 z → r ≡ nat (back w64 z) → is_below (pos n) z ≡ true → r < n
 unfolding nat
 below-natural z n fits e h = omega (arith, read_of w64 nat z fits e, (below-is z (pos n) h).below)
+
+pub answered-below : (z : ℤ) (n : ℕ) {f : Bool} {r : ℕ} → SFits w64 z → r ≡ nat (back w64 z) → f ≡ is_below (pos n) (back w64 z) → f ≡ true → r < n
+answered-below z n fits h e t = below-natural z n fits h (answered (is_below (pos n)) z fits e t)

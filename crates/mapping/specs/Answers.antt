@@ -1,19 +1,16 @@
 -- The answers of `mapping`, by cases: the paper's number and values for each. Definitions only.
-use Rattle.std.specs.Prelude.{ℕ, ◌≤◌, ◌<◌, Bool, true, cond, ◌&&◌, List, [], ◌∷◌, ◌++◌, eqb, ℤ, pos, nat_abs, ◌+ℤ◌, ◌-ℤ◌}
+use Rattle.std.specs.Prelude.{ℕ, ◌≤◌, ◌<◌, Bool, true, cond, ◌&&◌, List, [], ◌∷◌, ◌++◌, eqb, ℤ, pos, nat_abs, ◌+ℤ◌, ◌-ℤ◌, Result, Ok, Err}
 use Rattle.model.specs.Mappings.{Dealing, cyclic, gen_block, Mapping}
 use Rattle.model.specs.declared.Layout.{Layout}
 use Rattle.model.specs.Ownership.{nat, layout_of, rank, held, back_to}
 use Rattle.model.specs.Questions.{Question, ask, between, is_below, most, least, most_stride, block_fits, sizes_fit, bounds_fit, cells_fit, first_no, of_mapping}
 use Rattle.model.specs.Calls.{OwnershipAnswer, GoingBackAnswer, LocalCountAnswer}
 use Rattle.model.specs.Sized.{Sized}
+use Rattle.model.specs.declared.Declared.{Declared}
+use Rattle.model.specs.declared.refusals.Refusal.{Refusal}
+use Rattle.model.specs.Refusals.{number}
 use Rattle.mapping.specs.declared.questions.Mapped.{Mapped}
-use Rattle.mapping.specs.declared.questions.Mapped.TheVariants.{By, Refused}
-use Rattle.mapping.specs.declared.Owned.{Owned}
-use Rattle.mapping.specs.declared.Owned.TheVariants as owned
-use Rattle.mapping.specs.declared.Found.{Found}
-use Rattle.mapping.specs.declared.Found.TheVariants as found
-use Rattle.mapping.specs.declared.Counted.{Counted}
-use Rattle.mapping.specs.declared.Counted.TheVariants as counted
+use Rattle.mapping.specs.declared.parts.Home.{Home}
 
 -- T p, the dealing, a b n La Lt as a mapping
 abbrev pub mapping_of : ℤ → ℤ → Dealing → ℤ → ℤ → ℤ → ℤ → ℤ → Mapping
@@ -42,59 +39,42 @@ of_listed listed m =
     ++ (ask 5 (between (pos 0) most m.size) ∷ ask 15 (bounds_fit m) ∷ ask 5 (cells_fit m) ∷ [])
 
 -- the layout and the lower bound of a mapping that passes its questions, or the first question that is answered no
-unfoldable pub mapped_of : Mapping → Mapped
+unfoldable pub mapped_of : Mapping → Result Mapped ℕ
 mapped_of m =
     let e = first_no (of_mapping m) in
-    cond (eqb e 0) (By (layout_of m) m.lower) (Refused e)
+    cond (eqb e 0) (Ok (record { layout = layout_of m; lower = m.lower })) (Err e)
 
 -- a layout and a lower bound in range
 abbrev pub Ranged : Layout → ℤ → Type 0
 Ranged l lower = Sized l × (nat_abs lower ≤ 2147483647)
 
 -- what is known of each case: an accepted layout has every bound
-abbrev pub Sound : Mapped → Type 0
-Sound (By l lower) = Ranged l lower
-Sound (Refused q) = 0 < q
-
-abbrev pub refusal_in : Mapped → ℕ
-refusal_in (By l lower) = 0
-refusal_in (Refused q) = q
+abbrev pub Sound : Result Mapped ℕ → Type 0
+Sound (Ok x) = Ranged x.layout x.lower
+Sound (Err q) = 0 < q
 
 -- ---- the cases of each answer as the paper's numbers; every other field of a refusal is 0
 
 abbrev pub no_owner : ℕ → OwnershipAnswer
 no_owner e = record { refusal = e; processor = 0; address = 0 }
 
-abbrev pub owned_as : Owned → OwnershipAnswer
-owned_as (owned.At q x) = record { refusal = 0; processor = q; address = x.0 }
-owned_as (owned.Refused e) = no_owner e
-
--- the numbers of the refusals that it holds, if any
-abbrev pub owned_refusals : Owned → List ℕ
-owned_refusals (owned.At q x) = []
-owned_refusals (owned.Refused e) = e ∷ []
+abbrev pub owned_as : Result Home Refusal → OwnershipAnswer
+owned_as (Ok h) = record { refusal = 0; processor = h.processor; address = h.address.0 }
+owned_as (Err e) = no_owner (number e)
 
 abbrev pub not_found : ℕ → GoingBackAnswer
 not_found e = record { refusal = e; index = pos 0 }
 
-abbrev pub found_as : Found → GoingBackAnswer
-found_as (found.At j) = record { refusal = 0; index = j.0 }
-found_as (found.Refused e) = not_found e
-
-abbrev pub found_refusals : Found → List ℕ
-found_refusals (found.At j) = []
-found_refusals (found.Refused e) = e ∷ []
+abbrev pub found_as : Result Declared Refusal → GoingBackAnswer
+found_as (Ok j) = record { refusal = 0; index = j.0 }
+found_as (Err e) = not_found (number e)
 
 abbrev pub not_counted : ℕ → LocalCountAnswer
 not_counted e = record { refusal = e; elements = 0 }
 
-abbrev pub counted_as : Counted → LocalCountAnswer
-counted_as (counted.Elements n) = record { refusal = 0; elements = n }
-counted_as (counted.Refused e) = not_counted e
-
-abbrev pub counted_refusals : Counted → List ℕ
-counted_refusals (counted.Elements n) = []
-counted_refusals (counted.Refused e) = e ∷ []
+abbrev pub counted_as : Result ℕ Refusal → LocalCountAnswer
+counted_as (Ok n) = record { refusal = 0; elements = n }
+counted_as (Err e) = not_counted (number e)
 
 -- ---- what is left to ask of an accepted layout, and the answer, by the owner of each index
 

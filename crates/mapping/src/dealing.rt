@@ -120,6 +120,7 @@ fn element_by_halving(l: Layout, q: u64, x: Address) -> Index
 {
     let mut low = 0;
     let mut high = l.size;
+    // Not a `for`: the bounds close in on each other.
     while low + 1 < high {
         let middle = low + (high - low) / 2;
         if held_below(l, q, Index(middle)) <= x.0 {

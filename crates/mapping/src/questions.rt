@@ -4,11 +4,12 @@ ghost use Rattle.std.specs.Prelude.{◌≡◌, [], ◌≤◌, pos, nat_abs, ◌+
 ghost use Rattle.model.specs.Mappings.{cyclic, dealing_with, mapping_with};
 ghost use Rattle.model.specs.Ownership.{nat, block_in};
 ghost use Rattle.model.specs.Questions.{between, is_below, block_fits, bounds_fit, cells_fit, first_no};
-ghost use Rattle.mapping.specs.Answers.{mapping_of, list_fits, of_dealing, of_listed, mapped_of, Sound, refusal_in};
+ghost use Rattle.model.specs.Refusals.{asked_as, by_number};
+ghost use Rattle.mapping.specs.Answers.{mapping_of, list_fits, of_dealing, of_listed, mapped_of, Sound};
 ghost use Rattle.mapping.specs.Bounds.{Aligned, Reached};
 
 use crate::runs::sizes_fit;
-use model::{Dealing, Layout, MOST, MOST_PROCESSORS, Mapping};
+use model::{Dealing, Layout, MOST, MOST_PROCESSORS, Mapping, Refusal};
 
 // The largest alignment stride.
 const MOST_STRIDE: i64 = 4096;
@@ -17,10 +18,7 @@ const MOST_STRIDE: i64 = 4096;
 pub fn within(low: i64, high: i64, x: i64) -> bool
     ensures { result ≡ between low high x }
 {
-    if x < low {
-        return false;
-    }
-    x <= high
+    low <= x && x <= high
 }
 
 // x, or 0 where it is negative.
@@ -37,10 +35,7 @@ pub fn natural(x: i64) -> u64
 pub fn is_below(x: i64, n: u64) -> bool
     ensures { result ≡ is_below (pos n) x }
 {
-    if x < 0 {
-        return false;
-    }
-    (x as u64) < n
+    0 <= x && (x as u64) < n
 }
 
 // Question 3, which does not concern a list.
@@ -68,36 +63,35 @@ fn runs_fit(sizes: &[u8], t: i64, p: i64) -> bool
 pub fn list_fits(m: Mapping, sizes: &[u8]) -> bool
     ensures { result ≡ list_fits m.cells m.processors (dealing_with m.dealing sizes.now) }
 {
-    let d = m.dealing;
-    match d {
+    match m.dealing {
         Dealing::Cyclic(_) => true,
         Dealing::GenBlock => runs_fit(sizes, m.cells, m.processors),
     }
 }
 
-// The first of questions 1 to 4 and 16 that is answered no, or 0.
-fn dealing_refusal(t: i64, p: i64, d: Dealing, listed: bool, a: i64, b: i64) -> u32
-    ensures { result ≡ first_no (of_dealing t p (dealing_with d []) listed a b) }
+// Questions 1 to 4 and 16.
+fn ask_dealing(m: Mapping, listed: bool) -> Result<(), Refusal>
+    ensures { asked_as result ≡ first_no (of_dealing m.cells m.processors (dealing_with m.dealing []) listed m.stride m.offset) }
 {
-    if !within(1, MOST, t) {
-        return 1;
+    if !within(1, MOST, m.cells) {
+        return Err(Refusal::Cells);
     }
-    if !within(1, MOST_PROCESSORS, p) {
-        return 2;
+    if !within(1, MOST_PROCESSORS, m.processors) {
+        return Err(Refusal::Processors);
     }
-    if !block_fits(d) {
-        return 3;
+    if !block_fits(m.dealing) {
+        return Err(Refusal::Block);
     }
     if !listed {
-        return 16;
+        return Err(Refusal::Sizes);
     }
-    if !within(1, MOST_STRIDE, a) {
-        return 4;
+    if !within(1, MOST_STRIDE, m.stride) {
+        return Err(Refusal::Alignment);
     }
-    if !within(-MOST, MOST, b) {
-        return 4;
+    if !within(-MOST, MOST, m.offset) {
+        return Err(Refusal::Alignment);
     }
-    0
+    Ok(())
 }
 
 // The last of n numbers from lower on.
@@ -108,86 +102,71 @@ pub fn last_of(lower: i64, n: i64) -> i64
     lower + n - 1
 }
 
-// Question 15, of a template of t cells from origin on and an array of n elements from
-// lower on. An array of none has no last index.
-fn bounds_fit(t: i64, n: i64, lower: i64, origin: i64) -> bool
-    requires { (nat_abs t ≤ 2147483647) × (nat_abs n ≤ 2147483647) }
-    ensures { result ≡ bounds_fit (mapping_of t (pos 1) (cyclic (pos 1)) (pos 1) (pos 0) n lower origin) }
+// Question 15. An array of no elements has no last index.
+fn bounds_fit(m: Mapping) -> bool
+    requires { (nat_abs m.cells ≤ 2147483647) × (nat_abs m.size ≤ 2147483647) }
+    ensures { result ≡ bounds_fit (mapping_with m []) }
 {
-    if !within(-MOST, MOST, lower) {
+    if !within(-MOST, MOST, m.lower) {
         return false;
     }
-    if !within(-MOST, MOST, origin) {
+    if !within(-MOST, MOST, m.origin) {
         return false;
     }
-    if !within(-MOST, MOST, last_of(origin, t)) {
+    if !within(-MOST, MOST, last_of(m.origin, m.cells)) {
         return false;
     }
-    if n < 1 {
+    if m.size < 1 {
         return true;
     }
-    within(-MOST, MOST, last_of(lower, n))
+    within(-MOST, MOST, last_of(m.lower, m.size))
 }
 
 // The cell under declared index j, which may lie outside the template.
-fn cell_under(a: i64, b: i64, origin: i64, j: i64) -> i64
-    requires { Aligned a b origin j }
-    ensures { result ≡ a *ℤ j +ℤ b -ℤ origin }
+fn cell_under(m: Mapping, j: i64) -> i64
+    requires { Aligned m.stride m.offset m.origin j }
+    ensures { result ≡ m.stride *ℤ j +ℤ m.offset -ℤ m.origin }
 {
-    a * j + b - origin
+    m.stride * j + m.offset - m.origin
 }
 
 // Question 5, second half: is there no element, or do the first one's cell and the last
-// one's lie in a template of t cells?
-fn cells_fit(t: i64, a: i64, b: i64, n: i64, lower: i64, origin: i64) -> bool
-    requires { Reached a b n lower origin }
-    ensures { result ≡ cells_fit (mapping_of t (pos 1) (cyclic (pos 1)) a b n lower origin) }
+// one's lie in the template?
+fn cells_fit(m: Mapping) -> bool
+    requires { Reached m.stride m.offset m.size m.lower m.origin }
+    ensures { result ≡ cells_fit (mapping_with m []) }
 {
-    if n < 1 {
+    if m.size < 1 {
         return true;
     }
-    if cell_under(a, b, origin, lower) < 0 {
+    if cell_under(m, m.lower) < 0 {
         return false;
     }
-    cell_under(a, b, origin, last_of(lower, n)) < t
+    cell_under(m, last_of(m.lower, m.size)) < m.cells
 }
 
-// The first of questions 1 to 5 that is answered no, or 0; 15 stands between the halves of 5.
-fn first_refusal(
-    t: i64,
-    p: i64,
-    d: Dealing,
-    listed: bool,
-    a: i64,
-    b: i64,
-    n: i64,
-    lower: i64,
-    origin: i64,
-) -> u32
-    ensures { result ≡ first_no (of_listed listed (mapping_of t p (dealing_with d []) a b n lower origin)) }
+// Questions 1 to 5, 15 and 16; 15 stands between the halves of 5.
+fn ask_numbers(m: Mapping, listed: bool) -> Result<(), Refusal>
+    ensures { asked_as result ≡ first_no (of_listed listed (mapping_with m [])) }
 {
-    let dealing = dealing_refusal(t, p, d, listed, a, b);
-    if dealing != 0 {
-        return dealing;
+    ask_dealing(m, listed)?;
+    if !within(0, MOST, m.size) {
+        return Err(Refusal::Array);
     }
-    if !within(0, MOST, n) {
-        return 5;
+    if !bounds_fit(m) {
+        return Err(Refusal::Bounds);
     }
-    if !bounds_fit(t, n, lower, origin) {
-        return 15;
+    if !cells_fit(m) {
+        return Err(Refusal::Array);
     }
-    if !cells_fit(t, a, b, n, lower, origin) {
-        return 5;
-    }
-    0
+    Ok(())
 }
 
-// A mapping's layout and its array's lower bound, or the number of the question that was
-// answered no.
+// A mapping that passed its questions: its layout, and its array's lower bound.
 #[derive(Clone, Copy)]
-pub enum Mapped {
-    By(Layout, i64),
-    Refused(u32),
+pub struct Mapped {
+    pub layout: Layout,
+    pub lower: i64,
 }
 
 // Its block; 1 stands for that of a GEN_BLOCK template.
@@ -200,64 +179,21 @@ fn block_of(d: Dealing) -> i64
     }
 }
 
-fn mapped_of(
-    t: i64,
-    p: i64,
-    d: Dealing,
-    sizes: &[u8],
-    listed: bool,
-    a: i64,
-    b: i64,
-    n: i64,
-    lower: i64,
-    origin: i64,
-) -> Mapped
-    requires { listed ≡ list_fits t p (dealing_with d sizes.now) }
-    ensures value { result ≡ mapped_of (mapping_of t p (dealing_with d sizes.now) a b n lower origin) }
-    ensures sound { Sound result }
-{
-    let q = first_refusal(t, p, d, listed, a, b, n, lower, origin);
-    if q != 0 {
-        return Mapped::Refused(q);
-    }
-    let l = Layout {
-        cells: natural(t),
-        processors: natural(p),
-        block: natural(block_of(d)),
-        stride: natural(a),
-        offset: natural(cell_under(a, b, origin, lower)),
-        size: natural(n),
-    };
-    Mapped::By(l, lower)
-}
-
 // The list was looked through before.
-pub fn ask_mapping(m: Mapping, sizes: &[u8], listed: bool) -> Mapped
+pub fn ask_mapping(m: Mapping, sizes: &[u8], listed: bool) -> Result<Mapped, Refusal>
     requires { listed ≡ list_fits m.cells m.processors (dealing_with m.dealing sizes.now) }
-    ensures value { result ≡ mapped_of (mapping_with m sizes.now) }
-    ensures sound { Sound result }
+    ensures value { by_number result ≡ mapped_of (mapping_with m sizes.now) }
+    ensures sound { Sound (by_number result) }
 {
-    let d = m.dealing;
-    mapped_of(
-        m.cells,
-        m.processors,
-        d,
-        sizes,
-        listed,
-        m.stride,
-        m.offset,
-        m.size,
-        m.lower,
-        m.origin,
-    )
-}
-
-// The refusal's number, and 0 for a layout.
-pub fn refusal_of(m: Mapped) -> u32
-    ensures { result ≡ refusal_in m }
-{
-    match m {
-        Mapped::By(_, _) => 0,
-        Mapped::Refused(q) => q,
-    }
+    ask_numbers(m, listed)?;
+    let lower = m.lower;
+    let layout = Layout {
+        cells: natural(m.cells),
+        processors: natural(m.processors),
+        block: natural(block_of(m.dealing)),
+        stride: natural(m.stride),
+        offset: natural(cell_under(m, lower)),
+        size: natural(m.size),
+    };
+    Ok(Mapped { layout, lower })
 }

@@ -13,6 +13,7 @@ use numbers::words::word_at;
 const MOST_SIZE: u32 = MOST as u32;
 
 // The cells of a processor's run: those from start to end - 1.
+// No ghost field says that it ends no earlier than it starts: `part_in` makes one of any list.
 #[derive(Clone, Copy)]
 pub struct Run {
     pub start: Cell,
@@ -24,13 +25,10 @@ fn each_natural(sizes: &[u8]) -> bool
     requires { length sizes.now ≤ 4096 }
     ensures { result ≡ each_natural (sizes_of sizes.now) }
 {
-    let n = sizes.len() / 4;
-    let mut q: usize = 0;
-    while q < n {
+    for q in 0..sizes.len() / 4 {
         if MOST_SIZE < word_at(sizes, q) {
             return false;
         }
-        q += 1;
     }
     true
 }
@@ -41,11 +39,9 @@ fn start_of(sizes: &[u8], q: usize) -> u64
     ensures value { result ≡ run_start (words_of 4 sizes.now) q }
     ensures upper_bound { result ≤ 4294967296 * q }
 {
-    let mut i: usize = 0;
     let mut start: u64 = 0;
-    while i < q {
-        start += word_at(sizes, i) as u64;
-        i += 1;
+    for i in 0..q {
+        start += u64::from(word_at(sizes, i));
     }
     start
 }
@@ -92,20 +88,16 @@ pub(crate) fn owner_in(sizes: &[u8], c: Cell) -> Owner
     ensures processor_value { result.processor ≡ run_owner (words_of 4 sizes.now) c.0 }
     ensures start_value { result.start.0 ≡ run_start (words_of 4 sizes.now) result.processor }
 {
-    let cell = c.0;
-    let n = sizes.len() / 4;
-    let mut q: usize = 0;
     let mut start: u64 = 0;
-    while q < n {
-        let end = start + word_at(sizes, q) as u64;
-        if cell < end {
-            break;
+    for q in 0..sizes.len() / 4 {
+        let end = start + u64::from(word_at(sizes, q));
+        if c.0 < end {
+            return Owner {
+                processor: q as u64,
+                start: Cell(start),
+            };
         }
         start = end;
-        q += 1;
     }
-    Owner {
-        processor: q as u64,
-        start: Cell(start),
-    }
+    unreachable!()
 }

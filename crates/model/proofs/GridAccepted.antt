@@ -7,7 +7,8 @@ use borrow.Author.Tests.{leb-true}
 use Rattle.numbers.proofs.Tests.{both_true}
 use Rattle.model.specs.Mappings.{Mapping}
 use Rattle.model.specs.Questions.{first_no, Passes, of_mapping, of_section}
-use Rattle.model.specs.Grids.{Three, Grid, GridSection, mappings_of, sections_of, mappings_in, grid_array}
+use Rattle.model.specs.declared.three.Three.{Three}
+use Rattle.model.specs.Grids.{Grid, GridSection, mappings_of, sections_of, mappings_in, grid_array}
 use Rattle.model.specs.Grids.{of_rank, of_products, of_mappings, of_sections, of_grid, of_grid_section}
 use Rattle.model.proofs.QuestionLaws.{all_yes, both_yes}
 use Rattle.model.proofs.AcceptedLaws.{mapping-yes}

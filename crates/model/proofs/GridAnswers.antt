@@ -13,7 +13,8 @@ use Rattle.model.specs.Mappings.{Mapping}
 use Rattle.model.specs.Ownership.{nat, declared_index, layout_of, rank, held, back_to}
 use Rattle.model.specs.Questions.{first_no, is_index}
 use Rattle.model.specs.Axes.{Array, array_of}
-use Rattle.model.specs.Grids.{Three, Grid, single, mappings_of, grid_array, number_of, indices_of, of_grid, of_grid_processor, of_indices, of_grid_address}
+use Rattle.model.specs.declared.three.Three.{Three}
+use Rattle.model.specs.Grids.{Grid, single, mappings_of, grid_array, number_of, indices_of, of_grid, of_grid_processor, of_indices, of_grid_address}
 use Rattle.model.specs.GridCalls.{indices_in, of_grid_ownership, grid_ownership, GridBackAnswer, of_grid_back, grid_going_back}
 use Rattle.model.specs.Demand2.{LeadsBack}
 use Rattle.model.specs.GridDemands.{AreIndices}

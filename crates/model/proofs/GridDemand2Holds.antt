@@ -6,7 +6,8 @@ use Rattle.model.specs.Mappings.{Mapping}
 use Rattle.model.specs.Ownership.{from_lower, owner}
 use Rattle.model.specs.Questions.{first_no}
 use Rattle.model.specs.Axes.{Array, array_of, paired, product}
-use Rattle.model.specs.Grids.{Three, Grid, GridSection, mappings_of, sections_of, mappings_in, grid_array, number_of, indices_of, of_grid, of_grid_section}
+use Rattle.model.specs.declared.three.Three.{Three}
+use Rattle.model.specs.Grids.{Grid, GridSection, mappings_of, sections_of, mappings_in, grid_array, number_of, indices_of, of_grid, of_grid_section}
 use Rattle.model.specs.GridDemands.{AreIndices, rank_in, held_with, GridElement, GridDemand2, GridSectionDemand2}
 use Rattle.model.proofs.BoundLaws.{from-declared}
 use Rattle.model.proofs.AcceptedLaws.{is-index}

@@ -11,7 +11,8 @@ use Rattle.model.specs.Ownership.{nat}
 use Rattle.model.specs.Sections.{layout, index}
 use Rattle.model.specs.Questions.{ask, first_no, between, of_quota}
 use Rattle.model.specs.Axes.{Axis, paired, axis_of, places_on, rows}
-use Rattle.model.specs.Grids.{Three, GridSection, sections_of, mappings_in, grid_array, grid_axis, indices_of, indices_at, of_grid_section, of_grid_processor}
+use Rattle.model.specs.declared.three.Three.{Three}
+use Rattle.model.specs.Grids.{GridSection, sections_of, mappings_in, grid_array, grid_axis, indices_of, indices_at, of_grid_section, of_grid_processor}
 use Rattle.model.specs.GridCalls.{is_place_on, GridFill, of_grid_fill}
 use Rattle.model.specs.GridDemands.{grids}
 use Rattle.model.proofs.QuestionLaws.{all_yes, asks-on, none-no, is_below_lem}

@@ -8,7 +8,8 @@ use Rattle.model.specs.Mappings.{Mapping}
 use Rattle.model.specs.Ownership.{nat, back_to}
 use Rattle.model.specs.Filling.{fill_by}
 use Rattle.model.specs.Axes.{Array, array_of, Axis, walk_on}
-use Rattle.model.specs.Grids.{Three, Grid, sections_of, mappings_of, grid_array, grid_axis, number_of, indices_of, of_grid, of_grid_processor, of_indices, of_grid_address}
+use Rattle.model.specs.declared.three.Three.{Three}
+use Rattle.model.specs.Grids.{Grid, sections_of, mappings_of, grid_array, grid_axis, number_of, indices_of, of_grid, of_grid_processor, of_indices, of_grid_address}
 use Rattle.model.specs.Calls.{OwnershipAnswer}
 use Rattle.model.specs.GridCalls.{indices_in, of_grid_ownership, grid_ownership, GridBackAnswer, of_grid_back, grid_going_back, GridFill, of_grid_fill, grid_request_of, grid_fill}
 use Rattle.model.proofs.QuestionLaws.{all_yes, both_yes, below-is}

@@ -18,6 +18,7 @@ pub mod RunOwners
 pub mod Demand2Holds
 pub mod AnsweredLaws
 pub mod AnswerLaws
+pub mod RefusalLaws
 -- sections, their steps, and the walk by them
 pub mod SectionLaws
 pub mod Rests

@@ -16,7 +16,8 @@ use Rattle.model.specs.Steps.{steps_of}
 use Rattle.model.specs.Filling.{Outcome, stopped, answer}
 use Rattle.model.specs.Questions.{Question, ask, first_no, between, is_below, of_mapping, is_index, of_section, of_processor, of_index, of_address, is_place, of_place, of_quota}
 use Rattle.model.specs.Axes.{Array, array_of, owns_on, places_on, first_on}
-use Rattle.model.specs.Grids.{Three, Grid, GridSection, mappings_of, sections_of, grid_array, grid_axis, number_of, indices_of}
+use Rattle.model.specs.declared.three.Three.{Three}
+use Rattle.model.specs.Grids.{Grid, GridSection, mappings_of, sections_of, grid_array, grid_axis, number_of, indices_of}
 use Rattle.model.specs.Grids.{of_grid, of_grid_section, of_grid_processor, of_indices, of_grid_address}
 use Rattle.model.specs.Calls.{ownership, GoingBackAnswer, going_back, SectionStepsAnswer, no_report, steps_report, section_steps, first_place_at, FillCall, of_fill, walk_of, request_of, fill}
 use Rattle.model.specs.ByteFills.{in_words, outcome_by, bytes_by, bytes_after, outcome_of}

@@ -13,7 +13,8 @@ use Rattle.model.specs.Ownership.{nat, cell_under, last_index, last_cell, from_l
 use Rattle.model.specs.Sections.{count_of, element_at, count, index}
 use Rattle.model.specs.Questions.{Question, first_no, AllYes, between, bounds_fit, cells_fit, of_mapping, is_index, in_range, ends_fit, of_section}
 use Rattle.model.specs.Axes.{array_of, axis_of}
-use Rattle.model.specs.Grids.{Three, Grid, GridSection, single, single_section, mappings_of, sections_of, mappings_in, grid_array, grid_axis}
+use Rattle.model.specs.declared.three.Three.{Three}
+use Rattle.model.specs.Grids.{Grid, GridSection, single, single_section, mappings_of, sections_of, mappings_in, grid_array, grid_axis}
 use Rattle.model.specs.Grids.{of_rank, of_products, of_grid, of_grid_section}
 use Rattle.model.proofs.QuestionLaws.{numbered, asks-on, asks-no-more}
 use Rattle.model.proofs.AcceptedLaws.{mapped, mapping-yes}

@@ -7,7 +7,7 @@ use native.Mathlib.Nat.{mod-lt, zero-mul, zero-mod, eq-zero-or-pos}
 use native.Mathlib.Omega.{arith}
 use lib.Dec.{leb}
 use borrow.Author.Tests.{leb-true, le-leb}
-use Rattle.numbers.specs.declared.Hit.{Hit}
+use Rattle.std.specs.Prelude.{Option}
 use Rattle.numbers.specs.Search.{passing, head_or}
 use Rattle.numbers.proofs.Division.{rest-mul}
 use Rattle.numbers.proofs.Tests.{both_true}
@@ -32,7 +32,7 @@ module _ (M S : ℕ) (M-pos : 0 < M) (f : ℕ → Bool) (H : ℕ → Type 0) (to
   least-found : (w : ℕ) → H (w * S % M) → Least H (λ m. m * S % M) (head_or 0 (passing (λ m. f (m * S % M)) 1 M))
   least-found w h = go (first_found (λ m. f (m * S % M)) M 1)
     where
-      go : {r : Hit} → First (λ m. f (m * S % M)) 1 M r → Least H (λ m. m * S % M) (head_or 0 (passing (λ m. f (m * S % M)) 1 M))
+      go : {r : Option ℕ} → First (λ m. f (m * S % M)) 1 M r → Least H (λ m. m * S % M) (head_or 0 (passing (λ m. f (m * S % M)) 1 M))
       go (first t l b p least) =
           rw (head_first (λ m. f (m * S % M)) 0 1 M (first t l b p least))
           (record {

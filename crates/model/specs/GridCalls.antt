@@ -9,7 +9,8 @@ use Rattle.model.specs.Steps.{steps_of}
 use Rattle.model.specs.Filling.{Request, Outcome, answer}
 use Rattle.model.specs.Questions.{Question, ask, first_no, of_quota}
 use Rattle.model.specs.Axes.{Axis, owns_on, first_on, walk_on}
-use Rattle.model.specs.Grids.{Three, Grid, GridSection, up_to, mappings_of, sections_of, grid_array, grid_axis}
+use Rattle.model.specs.declared.three.Three.{Three}
+use Rattle.model.specs.Grids.{Grid, GridSection, up_to, mappings_of, sections_of, grid_array, grid_axis}
 use Rattle.model.specs.Grids.{number_of, indices_of, of_grid, of_grid_section, of_grid_processor, of_indices, of_grid_address}
 use Rattle.model.specs.Calls.{OwnershipAnswer, SectionStepsAnswer, no_report, steps_report, PlaceAnswer, FillOf}
 use Rattle.model.specs.ByteFills.{BytesOf, in_words, bytes_by, outcome_by}

@@ -1,7 +1,8 @@
 -- The grids and sections of the cases of our own for grids of processors (document 02, A7). Definitions only.
 use Rattle.std.specs.Prelude.{[], ◌∷◌, ℤ, pos, negsuc}
 use Rattle.model.specs.Mappings.{Mapping, Section}
-use Rattle.model.specs.Grids.{Three, Grid, GridSection}
+use Rattle.model.specs.declared.three.Three.{Three}
+use Rattle.model.specs.Grids.{Grid, GridSection}
 use Rattle.model.specs.Starred.{mapped, bounded, on}
 use Rattle.model.specs.GenBlockRows.{runs}
 

@@ -8,7 +8,8 @@ use Rattle.model.specs.Steps.{steps_of}
 use Rattle.model.specs.Filling.{Filled, fill_by}
 use Rattle.model.specs.Questions.{is_index}
 use Rattle.model.specs.Axes.{paired, first_on, walk_on}
-use Rattle.model.specs.Grids.{Three, Grid, GridSection, mappings_of, sections_of, mappings_in, grid_array, grid_axis, number_of, indices_of, indices_at, of_grid_section}
+use Rattle.model.specs.declared.three.Three.{Three}
+use Rattle.model.specs.Grids.{Grid, GridSection, mappings_of, sections_of, mappings_in, grid_array, grid_axis, number_of, indices_of, indices_at, of_grid_section}
 use Rattle.model.specs.Calls.{ownership, going_back, SectionStepsAnswer, steps_report, section_steps, first_place_at}
 use Rattle.model.specs.ByteFills.{ByteFill, in_words, store_entries, bytes_after, outcome_of}
 use Rattle.model.specs.GridCalls.{indices_in, of_grid_ownership, grid_ownership, zeros, of_grid_back, grid_going_back, GridStepsAnswer, no_steps, grid_steps}

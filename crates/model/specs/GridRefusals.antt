@@ -5,8 +5,7 @@ use Rattle.model.specs.Mappings.{Mapping, Section}
 use Rattle.model.specs.declared.Dealing.TheVariants.{Cyclic, GenBlock}
 use Rattle.model.specs.declared.Mapping as mappings
 use Rattle.model.specs.declared.Section as sections
-use Rattle.model.specs.declared.Grid as grids
-use Rattle.model.specs.declared.GridSection as grid_sections
+use Rattle.model.specs.declared.three.Ranked.{Ranked}
 use Rattle.model.specs.Questions.{Question, first_no}
 use Rattle.model.specs.Grids.{GridSection, grid_with, grid_section_with, of_grid, of_grid_section}
 use Rattle.model.specs.GridCalls.{of_grid_place, of_grid_fill}
@@ -41,14 +40,14 @@ abbrev filled : GridSection → ℤ → ℤ → ℤ → List Question
 filled x q t z = of_grid_fill (record { section = x; processor = q; place = t; quota = z; list = [] })
 
 -- as a call passes them
-abbrev lent : ℤ → mappings.Mapping → mappings.Mapping → mappings.Mapping → grids.Grid
-lent r x y z = record { rank = r; first = x; second = y; third = z }
+abbrev lent : ℤ → mappings.Mapping → mappings.Mapping → mappings.Mapping → Ranked mappings.Mapping
+lent r x y z = record { rank = r; dimensions = record { first = x; second = y; third = z } }
 
 abbrev only : mappings.Mapping → sections.Section
 only m = record { mapping = m; triplet = record { lower = pos 0; upper = pos 0; stride = pos 1 } }
 
-abbrev lent_on : ℤ → mappings.Mapping → mappings.Mapping → mappings.Mapping → grid_sections.GridSection
-lent_on r x y z = record { rank = r; first = only x; second = only y; third = only z }
+abbrev lent_on : ℤ → mappings.Mapping → mappings.Mapping → mappings.Mapping → Ranked sections.Section
+lent_on r x y z = record { rank = r; dimensions = record { first = only x; second = only y; third = only z } }
 
 abbrev runs_of : ℕ → mappings.Mapping
 runs_of T = given T 2 GenBlock

@@ -2,7 +2,8 @@
 -- proofs/GridRowsHold.antt computes them.
 use Rattle.std.specs.Prelude.{ℕ, Bool, true, ◌&&◌, List, [], ◌∷◌, map, eqb, ℤ, pos, negsuc, replicate}
 use Rattle.model.specs.Filling.{got, paid, standing}
-use Rattle.model.specs.Grids.{Three, Grid, GridSection}
+use Rattle.model.specs.declared.three.Three.{Three}
+use Rattle.model.specs.Grids.{Grid, GridSection}
 use Rattle.model.specs.GridCalls.{grid_ownership, grid_going_back, grid_steps, grid_first_place, GridFill, grid_fill}
 use Rattle.model.specs.Starred.{same_list, same_numbers, report_numbers, mapped, on}
 use Rattle.model.specs.GridCases.{at, nowhere, flat, ranked_on, flat_on, solid_on, sixes, fives, fours, edge, one_up, two_down, plane, thirds, below, pair, cube}

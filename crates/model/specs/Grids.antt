@@ -1,8 +1,10 @@
 -- Document 02, A7: grids of processors, their sections, and the questions about both. Definitions only.
 use Rattle.std.specs.Prelude.{ℕ, ◌/◌, ◌%◌, cond, ◌&&◌, List, [], ◌∷◌, ◌++◌, leb, ℤ, pos}
 use Rattle.std.specs.Int.Signed.{le_z}
-use Rattle.model.specs.declared.Grid as grids
-use Rattle.model.specs.declared.GridSection as grid_sections
+use Rattle.model.specs.declared.three.Three.{Three}
+use Rattle.model.specs.declared.three.Ranked.{Ranked}
+use Rattle.model.specs.declared.Mapping as mappings
+use Rattle.model.specs.declared.Section as sections
 use Rattle.model.specs.Mappings.{cyclic, Mapping, Section, mapping_with, section_with}
 use Rattle.model.specs.Ownership.{nat, from_lower, declared_index, layout_of, held}
 use Rattle.model.specs.Sections.{element_at, count}
@@ -11,21 +13,13 @@ use Rattle.model.specs.Axes.{Array, array_of, paired, product, Axis, axis_of, ro
 
 -- ---- a grid
 
--- what each of three dimensions has
-pub record Three (A : Type 0) : Type 0 where
-  pub first : A
-  pub second : A
-  pub third : A
-
 -- "a rank, and a mapping for each dimension"
-pub record Grid : Type 0 where
-  pub rank : ℤ
-  pub dimensions : Three Mapping
+abbrev pub Grid : Type 0
+Grid = Ranked Mapping
 
 -- a section is one of each dimension
-pub record GridSection : Type 0 where
-  pub rank : ℤ
-  pub dimensions : Three Section
+abbrev pub GridSection : Type 0
+GridSection = Ranked Section
 
 -- "numbers of dimensions past the rank are not looked at": in their place stands `none`
 abbrev pub up_to : {A : Type 0} → ℤ → A → Three A → Three A
@@ -61,16 +55,16 @@ abbrev pub mappings_in : Three Section → Three Mapping
 mappings_in x = record { first = x.first.mapping; second = x.second.mapping; third = x.third.mapping }
 
 -- as a call passes them, with the sizes of each dimension's list
-abbrev pub grid_with : grids.Grid → List ℕ → List ℕ → List ℕ → Grid
+abbrev pub grid_with : Ranked mappings.Mapping → List ℕ → List ℕ → List ℕ → Grid
 grid_with g b c d = record {
   rank = g.rank;
-  dimensions = record { first = mapping_with g.first b; second = mapping_with g.second c; third = mapping_with g.third d };
+  dimensions = record { first = mapping_with g.dimensions.first b; second = mapping_with g.dimensions.second c; third = mapping_with g.dimensions.third d };
 }
 
-abbrev pub grid_section_with : grid_sections.GridSection → List ℕ → List ℕ → List ℕ → GridSection
+abbrev pub grid_section_with : Ranked sections.Section → List ℕ → List ℕ → List ℕ → GridSection
 grid_section_with x b c d = record {
   rank = x.rank;
-  dimensions = record { first = section_with x.first b; second = section_with x.second c; third = section_with x.third d };
+  dimensions = record { first = section_with x.dimensions.first b; second = section_with x.dimensions.second c; third = section_with x.dimensions.third d };
 }
 
 -- ---- elements and positions by their numbers, "first dimension fastest"

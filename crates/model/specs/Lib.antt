@@ -13,6 +13,7 @@ pub mod Sized
 pub mod Axes
 pub mod Grids
 pub mod Calls
+pub mod Refusals
 pub mod ByteFills
 pub mod GridCalls
 pub mod Transfers

@@ -13,7 +13,8 @@ use Rattle.model.specs.Periods.{Repeating}
 use Rattle.model.specs.Questions.{first_no, Passes, in_range, of_section}
 use Rattle.model.specs.Cases.{ByCases}
 use Rattle.model.specs.CasesByHand.{CasesByHand}
-use Rattle.model.specs.Grids.{Three, Grid, GridSection, mappings_of, of_grid, of_grid_section}
+use Rattle.model.specs.declared.three.Three.{Three}
+use Rattle.model.specs.Grids.{Grid, GridSection, mappings_of, of_grid, of_grid_section}
 use Rattle.model.specs.Calls.{ownership, going_back}
 use Rattle.model.specs.ByteFills.{ByteFill, bytes_after, outcome_of}
 use Rattle.model.specs.GridCalls.{indices_in, grid_ownership, grid_going_back, GridByteFill, grid_bytes_after, grid_outcome_of}

@@ -1,7 +1,13 @@
 // What a reader must believe: the terms of document 01 as types here, and as definitions
 // in specs/. The demands are stated in specs/ too; what follows from the definitions is
-// proved in proofs/. Nothing here runs.
+// proved in proofs/. Refusals are in refusals.rt, what is threefold on a grid in three.rt.
 #![tactic(auto)]
+
+pub mod refusals;
+pub mod three;
+
+pub use refusals::{ListError, Refusal};
+pub use three::{Ranked, Three};
 
 // Limits that several questions and loops name: the size of a declared number, of a count and of a
 // list's entry; the processors; the tries that a fill asks for before it goes on, and the largest
@@ -33,8 +39,8 @@ pub struct Position(pub u64);
 pub struct Declared(pub i64);
 
 // How a template's cells are dealt to processors: in turn, in blocks of k; or GEN_BLOCK, each
-// processor one run of cells. The list of the runs' sizes stands beside a mapping, as bytes: an
-// enum holds no list.
+// processor one run of cells. The list of the runs' sizes stands beside a mapping, as bytes, and
+// not in here: the table `GridRefusals` and an edit of it are about lists of other dimensions.
 #[derive(Clone, Copy)]
 pub enum Dealing {
     Cyclic(i64),
@@ -59,7 +65,8 @@ pub struct Mapping {
 
 // A mapping that passed its questions, as natural numbers: elements count from 0, and the
 // offset is the first one's cell. A GEN_BLOCK template has no block: 1 stands in its place, and
-// nothing looks at it.
+// nothing looks at it. No ghost field says that the numbers are in range (`Sized`): the definition
+// `layout_of` makes a layout of any mapping, accepted or not.
 #[derive(Clone, Copy)]
 pub struct Layout {
     pub cells: u64,
@@ -94,24 +101,10 @@ pub struct Section {
     pub triplet: Triplet,
 }
 
-// An array of rank 1 to 3 on a grid of processors: a mapping for each dimension, of which those
-// past the rank are not looked at.
-#[derive(Clone, Copy)]
-pub struct Grid {
-    pub rank: i64,
-    pub first: Mapping,
-    pub second: Mapping,
-    pub third: Mapping,
-}
+// An array of rank 1 to 3 on a grid of processors: a mapping for each dimension; and a section of it.
+pub type Grid = Ranked<Mapping>;
 
-// A section of it: one of each dimension.
-#[derive(Clone, Copy)]
-pub struct GridSection {
-    pub rank: i64,
-    pub first: Section,
-    pub second: Section,
-    pub third: Section,
-}
+pub type GridSection = Ranked<Section>;
 
 // A step: its cells, its courses, and by how many columns it moves. The return step moves
 // as many columns back.

@@ -7,8 +7,8 @@ use native.Mathlib.Numerals.{add-one}
 use native.Mathlib.Omega.{arith}
 use lib.Dec.{leb}
 use borrow.Author.Tests.{leb-true, le-leb}
-use Rattle.numbers.specs.declared.Hit.{Hit}
-use Rattle.numbers.specs.declared.Hit.TheVariants.{At, Nothing}
+use Rattle.std.specs.Prelude.{Option, Some, None}
+use Rattle.std.specs.Prelude.{Option, Some, None}
 use Rattle.numbers.specs.FirstHit.{within, first_hit, Window}
 use Rattle.numbers.proofs.Division.{lt_of_mul, rest-is, rest-mul}
 use Rattle.numbers.proofs.Tests.{both_true}
@@ -29,9 +29,9 @@ pub record Lands (s m lo hi t y : ℕ) : Type 0 where
   pub upto : t * s ≤ y * m + hi
 
 -- The answer is the least t that lands anywhere.
-pub data Least (s m lo hi : ℕ) : Hit → Type 0 where
-  at : (t y : ℕ) → Lands s m lo hi t y → ((j z : ℕ) → Lands s m lo hi j z → t ≤ j) → Least s m lo hi (At t)
-  nowhere : ((j z : ℕ) → Lands s m lo hi j z → ⊥) → Least s m lo hi Nothing
+pub data Least (s m lo hi : ℕ) : Option ℕ → Type 0 where
+  at : (t y : ℕ) → Lands s m lo hi t y → ((j z : ℕ) → Lands s m lo hi j z → t ≤ j) → Least s m lo hi (Some t)
+  nowhere : ((j z : ℕ) → Lands s m lo hi j z → ⊥) → Least s m lo hi None
 
 -- the test that the definition searches by
 abbrev lies : ℕ → ℕ → ℕ → ℕ → ℕ → Bool
@@ -57,7 +57,7 @@ module _ (s m lo hi : ℕ) (high : hi < m) where
   again : (j : ℕ) → lies s m lo hi j ≡ true → lies s m lo hi (j % m) ≡ true
   again j e = rw (rest-mul m s j) e
 
-  pub least_first : {r : Hit} → Least s m lo hi r → r ≡ first_hit s m lo hi
+  pub least_first : {r : Option ℕ} → Least s m lo hi r → r ≡ first_hit s m lo hi
   unfolding first_hit
   least_first (at t y l least) =
       first-is (lies s m lo hi) m 0
@@ -67,7 +67,7 @@ module _ (s m lo hi : ℕ) (high : hi < m) where
       (λ j h e. least j (j * s / m) (lands j e)))
   least_first (nowhere none) = first-is (lies s m lo hi) m 0 (missing (λ j h l e. none j (j * s / m) (lands j e)))
 
-  least-of : {r : Hit} → First (lies s m lo hi) 0 m r → Least s m lo hi r
+  least-of : {r : Option ℕ} → First (lies s m lo hi) 0 m r → Least s m lo hi r
   least-of (first t h l p least) = at t (t * s / m) (lands t p) (λ j z g. least j (omega arith) (landed j z g))
   least-of (missing none) =
       nowhere (λ j z g. none (j % m) (omega arith) (omega (arith, mod-lt j m-pos)) (again j (landed j z g)))
@@ -77,21 +77,21 @@ module _ (s m lo hi : ℕ) (high : hi < m) where
   first-least = least-of (first_found (lies s m lo hi) m 0)
 
 -- what is found is below the modulus
-pub hit-below : (s m lo hi t : ℕ) → At t ≡ first_hit s m lo hi → t < m
+pub hit-below : (s m lo hi t : ℕ) → Some t ≡ first_hit s m lo hi → t < m
 unfolding first_hit
 hit-below s m lo hi t e =
-    omega (arith, first_below (lies s m lo hi) 0 m (subst (λ (v : Hit). First (lies s m lo hi) 0 m v) (sym e) (first_found (lies s m lo hi) m 0)))
+    omega (arith, first_below (lies s m lo hi) 0 m (subst (λ (v : Option ℕ). First (lies s m lo hi) 0 m v) (sym e) (first_found (lies s m lo hi) m 0)))
 
 -- ---- Euclid's step
 
 -- the number of wraps found, turned into a multiple
-unfoldable pub unwrap : ℕ → ℕ → ℕ → Hit → Hit
-unwrap s m hi (At y) = At ((y * m + hi) / s)
-unwrap s m hi Nothing = Nothing
+unfoldable pub unwrap : ℕ → ℕ → ℕ → Option ℕ → Option ℕ
+unwrap s m hi (Some y) = Some ((y * m + hi) / s)
+unwrap s m hi None = None
 
 module _ (s m lo hi t : ℕ) (pos : 0 < s) (some : lo ≤ hi) (before : t * s < lo) where
   -- the first multiple of s that reaches the window is in it
-  pub least-reached : lo ≤ suc t * s → suc t * s ≤ hi → Least s m lo hi (At (suc t))
+  pub least-reached : lo ≤ suc t * s → suc t * s ≤ hi → Least s m lo hi (Some (suc t))
   least-reached h l =
       at (suc t) 0 (record { from = omega arith; upto = omega arith }) (λ j z g. lt_of_mul t j s (omega (arith, g.from)))
 
@@ -118,7 +118,7 @@ module _ (s m lo hi t : ℕ) (pos : 0 < s) (some : lo ≤ hi) (before : t * s < 
         let f : j * s ≡ (j - (y * (m / s) + suc t)) * s + (y * (m / s) + suc t) * s = ap (λ (x : ℕ). x * s) e ∙ omega arith in
         record { from = omega (arith, split y, g.upto); upto = omega (arith, split y, g.from) }
 
-    pub least-passed : {r : Hit} → Least (m % s) s (suc t * s - hi) (suc t * s - lo) r → Least s m lo hi (unwrap s m hi r)
+    pub least-passed : {r : Option ℕ} → Least (m % s) s (suc t * s - hi) (suc t * s - lo) r → Least s m lo hi (unwrap s m hi r)
     unfolding unwrap
     least-passed (at y z l least) =
         rw (reached y z l) (at (z + y * (m / s) + suc t) y (up y z l) (λ j x g. first-up y z l j x (least x _ (down j x g)) g))
@@ -126,7 +126,7 @@ module _ (s m lo hi t : ℕ) (pos : 0 < s) (some : lo ≤ hi) (before : t * s < 
 
 -- ---- each answer is the one of the definition
 module _ (s m lo hi : ℕ) (w : Window s m lo hi) where
-  pub hit-zero : s ≡ 0 → Nothing ≡ first_hit s m lo hi
+  pub hit-zero : s ≡ 0 → None ≡ first_hit s m lo hi
   hit-zero e =
       least_first s m lo hi w.below (nowhere (λ j z l. omega (arith, l.from, ap (λ (x : ℕ). j * x) e, w.above)))
 
@@ -138,7 +138,7 @@ module _ (s m lo hi : ℕ) (w : Window s m lo hi) where
     reach : lo ≤ ((lo - 1) / s + 1) * s
     reach = omega (arith, div-add-mod' (lo - 1) s, mod-lt (lo - 1) pos)
 
-    pub hit-reached : ((lo - 1) / s + 1) * s ≤ hi → At ((lo - 1) / s + 1) ≡ first_hit s m lo hi
+    pub hit-reached : ((lo - 1) / s + 1) * s ≤ hi → Some ((lo - 1) / s + 1) ≡ first_hit s m lo hi
     hit-reached h =
         rw add-one (least_first s m lo hi w.below (least-reached s m lo hi ((lo - 1) / s) pos w.some before (rw add-one at reach) (rw add-one at h)))
 
@@ -155,15 +155,15 @@ module _ (s m lo hi : ℕ) (w : Window s m lo hi) where
       passed : x ≡ suc ((lo - 1) / s) * s
       passed = is ∙ ap (λ (n : ℕ). n * s) (add-one ((lo - 1) / s))
 
-      pub hit-passed : (r : Hit) → r ≡ first_hit (m % s) s (x - hi) (x - lo) → unwrap s m hi r ≡ first_hit s m lo hi
+      pub hit-passed : (r : Option ℕ) → r ≡ first_hit (m % s) s (x - hi) (x - lo) → unwrap s m hi r ≡ first_hit s m lo hi
       hit-passed r e =
           least_first s m lo hi w.below
           (least-passed s m lo hi ((lo - 1) / s) pos w.some before (omega (arith, passed)) {r = r}
           (subst (λ (n : ℕ). Least (m % s) s (n - hi) (n - lo) r) passed
-          (subst (λ (v : Hit). Least (m % s) s (x - hi) (x - lo) v) (sym e) (first-least (m % s) s (x - hi) (x - lo) next-window.below))))
+          (subst (λ (v : Option ℕ). Least (m % s) s (x - hi) (x - lo) v) (sym e) (first-least (m % s) s (x - hi) (x - lo) next-window.below))))
 
       -- the multiple of m fits 64 bits
-      pub multiple-fits : (y : ℕ) → At y ≡ first_hit (m % s) s (x - hi) (x - lo) → y * m + hi < 2 ^ 64
+      pub multiple-fits : (y : ℕ) → Some y ≡ first_hit (m % s) s (x - hi) (x - lo) → y * m + hi < 2 ^ 64
       multiple-fits y e =
           let few : y ≤ 2 ^ 31 = omega (arith, hit-below (m % s) s (x - hi) (x - lo) y e, w.rest, w.small) in
           omega (arith, mul-le-mul few w.small, w.below, w.small)

@@ -19,15 +19,14 @@ use native.Mathlib.Omega.{arith}
 use lib.Dec.{ltb}
 use borrow.Author.Tests.{le-ltb, lt-ltb}
 use lib.ListN.{length, get_or}
+use Rattle.std.specs.Prelude.{Option, Some, None}
 use Rattle.numbers.specs.Search.{tally, passing, head_or, sum}
 use Rattle.numbers.specs.FirstHit.{first_of}
-use Rattle.numbers.specs.declared.Hit.{Hit}
-use Rattle.numbers.specs.declared.Hit.TheVariants.{At, Nothing}
 
 -- What the search for the first of the n numbers from a on that passes has found.
-pub data First (f : ℕ → Bool) (a n : ℕ) : Hit → Type 0 where
-  first : (t : ℕ) → a ≤ t → t < a + n → f t ≡ true → ((j : ℕ) → a ≤ j → f j ≡ true → t ≤ j) → First f a n (At t)
-  missing : ((j : ℕ) → a ≤ j → j < a + n → f j ≡ true → ⊥) → First f a n Nothing
+pub data First (f : ℕ → Bool) (a n : ℕ) : Option ℕ → Type 0 where
+  first : (t : ℕ) → a ≤ t → t < a + n → f t ≡ true → ((j : ℕ) → a ≤ j → f j ≡ true → t ≤ j) → First f a n (Some t)
+  missing : ((j : ℕ) → a ≤ j → j < a + n → f j ≡ true → ⊥) → First f a n None
 
 module _ (f : ℕ → Bool) where
   -- ---- one number more
@@ -146,7 +145,7 @@ module _ (f : ℕ → Bool) where
       go (inl s) = absurd (true≢false (sym q ∙ ap f (sym s) ∙ e))
       go (inr s) = s
 
-  skip : (n a : ℕ) → f a ≡ false → {r : Hit} → First f (suc a) n r → First f a (suc n) r
+  skip : (n a : ℕ) → f a ≡ false → {r : Option ℕ} → First f (suc a) n r → First f a (suc n) r
   skip n a e (first t h l p least) = first t (omega arith) (omega arith) p (λ j g q. least j (later a j e g q) q)
   skip n a e (missing none) = missing (λ j h l q. none j (later a j e h q) (omega arith) q)
 
@@ -161,35 +160,35 @@ module _ (f : ℕ → Bool) where
       go w false e = rw (passing-no a n e) (skip n a e w)
 
   -- and there is one answer only
-  pub first-same : (a n : ℕ) {r w : Hit} → First f a n r → First f a n w → r ≡ w
-  first-same a n (first t h l p least) (first u h' l' p' least') = ap At (le_antisymm (least u h' p') (least' t h p))
+  pub first-same : (a n : ℕ) {r w : Option ℕ} → First f a n r → First f a n w → r ≡ w
+  first-same a n (first t h l p least) (first u h' l' p' least') = ap Some (le_antisymm (least u h' p') (least' t h p))
   first-same a n (first t h l p least) (missing none) = absurd (none t h l p)
   first-same a n (missing none) (first t h l p least) = absurd (none t h l p)
   first-same a n (missing none) (missing none') = refl
 
-  pub first-is : (n a : ℕ) {r : Hit} → First f a n r → r ≡ first_of (passing f a n)
+  pub first-is : (n a : ℕ) {r : Option ℕ} → First f a n r → r ≡ first_of (passing f a n)
   first-is n a w = first-same a n w (first_found n a)
 
   -- what is found is in the range
-  pub first_below : (a n : ℕ) {t : ℕ} → First f a n (At t) → t < a + n
+  pub first_below : (a n : ℕ) {t : ℕ} → First f a n (Some t) → t < a + n
   first_below a n (first t h l p least) = l
 
 -- ---- the first of a list, or another number
-head_at : (d t : ℕ) (l : List ℕ) → At t ≡ first_of l → head_or d l ≡ t
+head_at : (d t : ℕ) (l : List ℕ) → Some t ≡ first_of l → head_or d l ≡ t
 unfolding head_or first_of
 head_at d t [] e = absurd (let z : ◌≡◌ {A = ℕ} 0 1 = cc in omega arith)
 head_at d t (x ∷ l) e = cc
 
-head-none : (d : ℕ) (l : List ℕ) → Nothing ≡ first_of l → head_or d l ≡ d
+head-none : (d : ℕ) (l : List ℕ) → None ≡ first_of l → head_or d l ≡ d
 unfolding head_or first_of
 head-none d [] e = refl
 head-none d (x ∷ l) e = absurd (let z : ◌≡◌ {A = ℕ} 0 1 = cc in omega arith)
 
 module _ (f : ℕ → Bool) (d a n : ℕ) where
-  pub head_first : {t : ℕ} → First f a n (At t) → head_or d (passing f a n) ≡ t
+  pub head_first : {t : ℕ} → First f a n (Some t) → head_or d (passing f a n) ≡ t
   head_first {t} w = head_at d t (passing f a n) (first-is f n a w)
 
-  pub head-missing : First f a n Nothing → head_or d (passing f a n) ≡ d
+  pub head-missing : First f a n None → head_or d (passing f a n) ≡ d
   head-missing w = head-none d (passing f a n) (first-is f n a w)
 
 -- the first that passes of numbers up to N, or d, which is no larger

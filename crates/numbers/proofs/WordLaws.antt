@@ -3,7 +3,7 @@ use Prim.Native.Nat.{ℕ, zero, suc, ◌+◌, ◌*◌, ◌/◌, ◌%◌, ◌^◌
 use mathlib.Core.Path.{◌≡◌, refl, sym, ap, ◌∙◌}
 use mathlib.Core.List.{List, [], ◌∷◌}
 use mathlib.Core.Logic.{◌⊎◌, inl, inr}
-use native.Mathlib.Nat.{zero-add, suc-add, div-mul-le_self, div-div-eq-div-mul, mul-le-mul_left}
+use native.Mathlib.Nat.{zero-add, suc-add, div-mul-le_self, mul-le-mul_left}
 use native.Mathlib.Decide.{dec_lt}
 use native.Mathlib.Omega.{arith}
 use lib.ListN.{length, take, drop, get_or, set, length-set}
@@ -123,16 +123,3 @@ module _ (w n x : ℕ) (bs : List ℕ) where
         ext_get_or 0 (words_of w (store_at w bs (w * n) x)) (set (words_of w bs) n x)
         (length-same ∙ sym (length-set (words_of w bs) n x))
         (λ i h. each i (omega (arith, length-same, words-length w bs)))
-
--- ---- a word of 4 bytes, one store after the other
-pub four-stores : (l : List ℕ) (i x : ℕ) →
-    set (set (set (set l i (x % 256)) (i + 1) (x / 256 % 256)) (i + 2) (x / 65536 % 256)) (i + 3) (x / 16777216 % 256) ≡ store_at 4 l i x
-unfolding store_at
-four-stores l i x =
-    let one : i + 1 ≡ suc i = omega arith in
-    let two : i + 2 ≡ suc (suc i) = omega arith in
-    let three : i + 3 ≡ suc (suc (suc i)) = omega arith in
-    let third : x / 65536 ≡ x / 256 / 256 = sym (div-div-eq-div-mul x 256 256) in
-    let fourth : x / 16777216 ≡ x / 256 / 256 / 256 =
-    sym (div-div-eq-div-mul (x / 256) 256 256 ∙ div-div-eq-div-mul x 256 65536) in
-    rw (one, two, three, third, fourth)

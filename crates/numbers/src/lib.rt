@@ -41,33 +41,23 @@ pub fn floor_sum(n: u64, m: u64, a: u64, b: u64) -> u64
     }
 }
 
-// What a search finds.
-#[derive(Clone, Copy)]
-pub enum Hit {
-    At(u64),
-    Nothing,
-}
-
 // The least t with lo <= t * s % m <= hi. Where no multiple of s lies in the window
 // itself, the least number y of whole m passed is the least whose multiple of m lies as
 // far below a multiple of s.
-pub fn first_hit(s: u64, m: u64, lo: u64, hi: u64) -> Hit
+pub fn first_hit(s: u64, m: u64, lo: u64, hi: u64) -> Option<u64>
     requires { Window s m lo hi }
     ensures { result ≡ first_hit s m lo hi }
 {
     if s == 0 {
-        return Hit::Nothing;
+        return None;
     }
     let t = (lo - 1) / s + 1;
     let x = t * s;
     if x <= hi {
-        return Hit::At(t);
+        return Some(t);
     }
-    let wraps = first_hit(m % s, s, x - hi, x - lo);
-    match wraps {
-        Hit::At(y) => Hit::At((y * m + hi) / s),
-        Hit::Nothing => Hit::Nothing,
-    }
+    let y = first_hit(m % s, s, x - hi, x - lo)?;
+    Some((y * m + hi) / s)
 }
 
 // How many of the first n multiples of s, from 0 on, are below d.
@@ -75,9 +65,5 @@ pub fn multiples_below(s: u64, n: u64, d: u64) -> u64
     requires { (0 < s) × (d + s < 2 ^ 64) }
     ensures { result ≡ multiples_below s n d }
 {
-    let m = (d + (s - 1)) / s;
-    if m < n {
-        return m;
-    }
-    n
+    ((d + (s - 1)) / s).min(n)
 }

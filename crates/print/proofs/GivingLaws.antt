@@ -8,7 +8,8 @@ use lib.ListN.{length, take, length-append}
 use lib.Seq.{length-take-le, take_all}
 use Rattle.model.proofs.Rests.{le-or-lt}
 use Rattle.sheet.specs.declared.Content.{Content}
-use Rattle.print.specs.declared.pieces.Piece.{Piece}
+use Rattle.print.specs.declared.parts.Part.{Part}
+use Rattle.print.specs.declared.pieces.Left.{Left}
 use Rattle.print.specs.declared.pieces.Opened.{Opened}
 use Rattle.print.specs.Pieces.{Prints, left_text, PieceOf, OpenedOf}
 use Rattle.print.specs.Giving.{Received, Gives, Waits, to_give}
@@ -34,11 +35,11 @@ module _ (s buffer : List ℕ) (n : ℕ) (more : 8841 < length buffer) (h : Rece
         last = v.piece.last;
       }
 
-pub waits : {c : Content} {text out : List ℕ} {p : Piece} → PieceOf c text out p → Waits out p
+pub waits : {c : Content} {text out : List ℕ} {p : Part Left} → PieceOf c text out p → Waits out p
 waits v = record { within = v.within; stands = v.stands }
 
 -- a piece is given, and the next one made
-module _ (c : Content) (p : Piece) {after : List ℕ} {next : Piece} (v : PieceOf c (left_text c p.next) after next) where
+module _ (c : Content) (p : Part Left) {after : List ℕ} {next : Part Left} (v : PieceOf c (left_text c p.next) after next) where
   pub goes_on : {s given out : List ℕ} → Gives s given c out p → Gives s (given ++ take p.bytes out) c after next
   goes_on {s} {given} {out} g =
       record {

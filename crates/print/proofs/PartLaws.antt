@@ -1,6 +1,6 @@
 -- Each part is the front of what was left to print.
 use Prim.Native.Nat.{ℕ, suc, ◌+◌, ◌-◌, ◌^◌, ◌≤◌, ◌<◌}
-use mathlib.Core.Path.{◌≡◌, refl, sym, ◌∙◌, ap}
+use mathlib.Core.Path.{◌≡◌, sym, ◌∙◌, ap}
 use mathlib.Core.List.{List, [], ◌∷◌, ◌++◌, map, map-append, append_assoc, append-nil}
 use native.Mathlib.Nat.{sub-zero}
 use native.Mathlib.Numerals.{add-one}
@@ -8,12 +8,12 @@ use native.Mathlib.Omega.{arith}
 use borrow.Author.Tests.{ne_eqb}
 use lib.ListN.{length, take, drop, take-append-drop}
 use lib.Seq.{length-take-le}
+use Rattle.std.specs.Prelude.{Ok, Err}
 use Rattle.numbers.specs.Search.{sum}
 use Rattle.model.specs.Mappings.{Section}
 use Rattle.model.specs.Sections.{layout, count, address, places}
 use Rattle.model.specs.Steps.{cost}
 use Rattle.section.specs.declared.questions.Strided.{Strided}
-use Rattle.section.specs.declared.questions.Asked.TheVariants.{By, Refused}
 use Rattle.section.specs.Strides.{strided_of}
 use Rattle.section.specs.Answers.{asked_of}
 use Rattle.section.proofs.CallAnswers.{passed, stopped}
@@ -22,7 +22,6 @@ use Rattle.print.specs.declared.fills.Rest.{Rest}
 use Rattle.print.specs.declared.fills.Gone.{Gone}
 use Rattle.print.specs.declared.parts.Turn.{Turn}
 use Rattle.print.specs.declared.parts.Turn.TheVariants.{Line, Addresses, Done}
-use Rattle.print.specs.declared.parts.Part.{Part}
 use Rattle.print.specs.Texts.{section_line, refusal_line, sheet_line, processor_line, processor_lines, section_text, next_numbers, line_front, Puts}
 use Rattle.print.specs.Ahead.{listed, Fair, Owner, rest_of, StandsIn, Went}
 use Rattle.print.specs.Turns.{lines_from, text_left, Stands, PartOf}
@@ -59,7 +58,7 @@ module _ (y : Listed) (f : Fair y) (q : ℕ) where
 -- ---- the first line
 
 module _ (j : ℕ) (x : Section) {out after : List ℕ} {n : ℕ} where
-  pub first_by : (w : Strided) → asked_of x ≡ By w → Puts (section_line j w.count) out 0 after n → length (section_line j w.count) ≤ length out
+  pub first_by : (w : Strided) → asked_of x ≡ Ok w → Puts (section_line j w.count) out 0 after n → length (section_line j w.count) ≤ length out
       → {t : Turn} → text_left t ≡ lines_from x 0 → Stands t → PartOf (section_text j x) after (record { bytes = n; next = t })
   unfolding section_text strided_of
   first_by w a p fits {t} e stands =
@@ -68,7 +67,7 @@ module _ (j : ℕ) (x : Section) {out after : List ℕ} {n : ℕ} where
       let c : w.count ≡ count x = ap (λ (z : Strided). z.count) v.strided in
       part_of p fits (omega (arith, section-length j w.count)) (rw (v.none, c, e, all)) stands
 
-  pub first-refused : (e : ℕ) → asked_of x ≡ Refused e → Puts (refusal_line j e) out 0 after n → length (refusal_line j e) ≤ length out
+  pub first-refused : (e : ℕ) → asked_of x ≡ Err e → Puts (refusal_line j e) out 0 after n → length (refusal_line j e) ≤ length out
       → PartOf (section_text j x) after (record { bytes = n; next = Done })
   unfolding section_text
   first-refused e a p fits =
@@ -150,11 +149,3 @@ module _ (y : Listed) (q : ℕ) (o : Owner y q) where
       split =
           ap (λ (l : List ℕ). next_numbers (map (address x) l) ++ lines) (sym (take-append-drop m ps))
           ∙ rw (map-append (address x) (take m ps) (drop m ps), next-append) (simp append_assoc)
-
--- ---- nothing more
-
-pub done-part : (out : List ℕ) → PartOf [] out (record { bytes = 0; next = Done })
-done-part out = record { within = omega arith; printed = refl; stands = tt; last = λ z. refl }
-
-pub of-turn : {t u : Turn} → t ≡ u → {out : List ℕ} {p : Part} → PartOf (text_left u) out p → PartOf (text_left t) out p
-of-turn e v = rw e v

@@ -8,25 +8,24 @@ use native.Mathlib.Numerals.{add-one}
 use native.Mathlib.Omega.{arith}
 use lib.Dec.{eqb}
 use lib.ListN.{length, length-map}
+use Rattle.std.specs.Prelude.{Ok, Err}
 use Rattle.model.specs.Mappings.{Section}
 use Rattle.model.specs.Questions.{first_no, of_section}
 use Rattle.model.specs.Sheets.{Sheet, IsPrint, Place, Reads, no_sheet}
 use Rattle.model.specs.Sheets as reads
 use Rattle.sheet.specs.declared.Content.{Content}
-use Rattle.sheet.specs.declared.SheetRead.{SheetRead}
-use Rattle.sheet.specs.declared.Answer.TheVariants.{Formed, Malformed}
 use Rattle.sheet.specs.Contents.{section_in, content_of, from_section}
-use Rattle.sheet.specs.Answers.{Promised, refusal_in, place_in}
+use Rattle.sheet.specs.Answers.{Promised}
 use Rattle.sheet.proofs.SectionLaws.{section-stands}
 use Rattle.print.specs.declared.parts.Turn.{Turn}
 use Rattle.print.specs.declared.parts.Turn.TheVariants.{Done}
+use Rattle.print.specs.declared.parts.Part.{Part}
 use Rattle.print.specs.declared.pieces.Left.{Left}
-use Rattle.print.specs.declared.pieces.Piece.{Piece}
 use Rattle.print.specs.Texts.{section_text, sheet_line, Puts}
-use Rattle.print.specs.Turns.{text_left, PartOf}
+use Rattle.print.specs.Turns.{PartOf}
 use Rattle.print.proofs.LineLaws.{sheet-length}
 use Rattle.print.proofs.PartLaws.{part_of}
-use Rattle.print.specs.Pieces.{list_from, formed, malformed, sections_text, sections_from, left_text, PieceOf, OpenedOf}
+use Rattle.print.specs.Pieces.{list_from, formed, malformed, sections_text, sections_from, PieceOf, OpenedOf}
 
 abbrev sign : List ℕ → ℕ
 sign [] = 0
@@ -70,14 +69,6 @@ module _ (c : Content) where
       let e : c.sections.count - j ≡ suc (c.sections.count - suc j) = omega arith in
       rw (e, add-one) (rw add-one at (piece_of v some (j + 1)))
 
-  pub turn-piece : (l : Left) {out : List ℕ} {n : ℕ} {t : Turn} → PartOf (text_left l.turn) out (record { bytes = n; next = t }) → (n ≡ 0 → ⊥)
-      → PieceOf c (left_text c l) out (record { bytes = n; next = record { turn = t; section = l.section } })
-  turn-piece l v h = piece_of v (omega arith) l.section
-
-  pub after_turn : (l : Left) {out after : List ℕ} {n : ℕ} {t : Turn} {p : Piece} → PartOf (text_left l.turn) out (record { bytes = n; next = t }) → n ≡ 0
-      → PieceOf c (sections_from c l.section) after p → PieceOf c (left_text c l) after p
-  after_turn l v z q = rw (v.last z) q
-
 -- ---- the first piece
 
 -- a sheet's sections are those of its content
@@ -99,36 +90,35 @@ pub is-malformed : {s : List ℕ} {e n : ℕ} {w : Sheet} → Reads s e n w → 
 is-malformed (reads.formed p) z = absurd (omega arith)
 is-malformed (reads.malformed h) z = (h, refl)
 
-same_text : {c : Content} {t u out : List ℕ} {p : Piece} → t ≡ u → PieceOf c t out p → PieceOf c u out p
+same_text : {c : Content} {t u out : List ℕ} {p : Part Left} → t ≡ u → PieceOf c t out p → PieceOf c u out p
 same_text {c} {t} {u} {out} {p} e q = subst (λ (l : List ℕ). PieceOf c l out p) e q
 
-module _ (s : List ℕ) (r : SheetRead) (v : Promised s r) where
-  pub opened-formed : r.answer ≡ Formed → {out : List ℕ} {p : Piece} → PieceOf r.content (sections_from r.content 0) out p
-      → OpenedOf s out (record { content = r.content; piece = p })
-  opened-formed e {out} {p} q =
+module _ (s : List ℕ) where
+  pub opened-formed : {c : Content} → Promised s (Ok c) → {out : List ℕ} {p : Part Left} → PieceOf c (sections_from c 0) out p
+      → OpenedOf s out (record { content = c; piece = p })
+  opened-formed {c} v {out} {p} q =
       let w = v.sheet in
-      let same : sections_from r.content 0 ≡ list_from w 0 (length w.sections) =
+      let same : sections_from c 0 ≡ list_from w 0 (length w.sections) =
       ap (λ (c : Content). sections_from c 0) v.content ∙ all-sections w in
       record {
         text = list_from w 0 (length w.sections);
-        prints = formed w (is-formed v.reads (ap refusal_in e));
+        prints = formed w (is-formed v.reads refl);
         piece = same_text same q;
       }
 
-  pub opened-malformed : (n : ℕ) → r.answer ≡ Malformed n → {out after : List ℕ} {k : ℕ} → Puts (sheet_line n) out 0 after k
-      → length (sheet_line n) ≤ length out
-      → OpenedOf s after (record { content = r.content; piece = record { bytes = k; next = record { turn = Done; section = 0 } } })
-  unfolding list_from
-  opened-malformed n e {out} {after} {k} p fits =
-      let m = is-malformed v.reads (ap refusal_in e) in
-      let none : sections_from r.content 0 ≡ [] =
-      ap (λ (c : Content). sections_from c 0) (v.content ∙ ap content_of m.1) ∙ all-sections no_sheet in
+  pub opened-malformed : (c : Content) → c.sections.count ≡ 0 → {n : ℕ} → Promised s (Err (record { 0 = n })) → {out after : List ℕ} {k : ℕ}
+      → Puts (sheet_line n) out 0 after k → length (sheet_line n) ≤ length out
+      → OpenedOf s after (record { content = c; piece = record { bytes = k; next = record { turn = Done; section = 0 } } })
+  unfolding sections_text
+  opened-malformed c z {n} v {out} {after} {k} p fits =
+      let m = is-malformed v.reads refl in
+      let none : sections_from c 0 ≡ [] = rw z in
       let part : PartOf (sheet_line n) after (record { bytes = k; next = Done }) =
       part_of p fits (omega (arith, sheet-length n)) (sym (append-nil _)) tt in
       let some : 0 < k = omega (arith, p.ends, sheet-length n) in
-      let piece = piece_of r.content part some 0 in
+      let piece = piece_of c part some 0 in
       record {
         text = sheet_line n;
-        prints = malformed n (subst (Place IsPrint s) (ap place_in e) m.0);
+        prints = malformed n m.0;
         piece = same_text (ap (λ (l : List ℕ). sheet_line n ++ l) none ∙ append-nil (sheet_line n)) piece;
       }

@@ -3,7 +3,6 @@ use Prim.Native.Nat.{ℕ, zero, suc, ◌+◌, ◌-◌, ◌≤◌, ◌<◌, min}
 use mathlib.Core.Path.{◌≡◌, sym, ◌∙◌, ap}
 use mathlib.Core.Bool.{true}
 use mathlib.Core.List.{List, [], ◌∷◌, ◌++◌, map}
-use native.Mathlib.Nat.{zero-add}
 use native.Mathlib.Omega.{arith}
 use lib.Dec.{lit≤}
 use lib.ListN.{length, take, drop, length-append, length-map, length-drop}
@@ -160,6 +159,3 @@ all_paid x q {r} s h paid all e = omega (arith, left_is x q s, costs-few x (rest
 -- all the tries of a processor's list
 pub tries-few : (x : Section) → first_no (of_section x) ≡ 0 → (q : ℕ) → sum (map (cost x) (places x q)) ≤ 6442450941
 tries-few x ok q = omega (arith, costs-few x (places x q), places-few x q ok)
-
-pub none-paid : (x : Section) (q : ℕ) {l : List ℕ} → l ≡ places x q → 0 + sum (map (cost x) l) ≡ sum (map (cost x) (places x q))
-none-paid x q e = zero-add _ ∙ ap (λ (k : List ℕ). sum (map (cost x) k)) e

@@ -4,7 +4,7 @@ use Rattle.model.specs.Sheets.{Sheet, IsPrint, Place, section_of}
 use Rattle.sheet.specs.declared.Content.{Content}
 use Rattle.sheet.specs.Contents.{section_in}
 use Rattle.print.specs.declared.pieces.Left.{Left}
-use Rattle.print.specs.declared.pieces.Piece.{Piece}
+use Rattle.print.specs.declared.parts.Part.{Part}
 use Rattle.print.specs.declared.pieces.Opened.{Opened}
 use Rattle.print.specs.Texts.{section_text, sheet_line}
 use Rattle.print.specs.Turns.{text_left, Stands}
@@ -36,7 +36,7 @@ abbrev pub left_text : Content → Left → List ℕ
 left_text c l = text_left l.turn ++ sections_from c l.section
 
 -- A piece is the front of the text that was left, and what is left comes after it. A piece without bytes is the last.
-pub record PieceOf (c : Content) (text out : List ℕ) (p : Piece) : Type 0 where
+pub record PieceOf (c : Content) (text out : List ℕ) (p : Part Left) : Type 0 where
   pub within : p.bytes ≤ length out
   pub printed : text ≡ take p.bytes out ++ left_text c p.next
   pub stands : Stands p.next.turn

@@ -31,7 +31,7 @@ pub record Room (list out : List ℕ) : Type 0 where
   pub entries : 11 * length list ≤ length out
 
 -- A part is the front of the text that was left, and what is left comes after it. A part without bytes is the last.
-pub record PartOf (text out : List ℕ) (p : Part) : Type 0 where
+pub record PartOf (text out : List ℕ) (p : Part Turn) : Type 0 where
   pub within : p.bytes ≤ length out
   pub printed : text ≡ take p.bytes out ++ text_left p.next
   pub stands : Stands p.next

@@ -1,5 +1,5 @@
 // Fills along a processor's list of an accepted section, from a place to the list's end.
-ghost use Rattle.std.specs.Prelude.{◌≡◌, ◌<◌, min, map, length};
+ghost use Rattle.std.specs.Prelude.{◌≡◌, ◌<◌, map, length};
 ghost use Rattle.numbers.specs.Search.{sum};
 ghost use Rattle.model.specs.Sections.{places};
 ghost use Rattle.model.specs.Steps.{cost};
@@ -47,40 +47,26 @@ pub fn whole(x: Listed, q: u64) -> Rest
     }
 }
 
-// As many entries of a list as are left.
-fn room_for(left: u64, entries: usize) -> usize
-    ensures { result ≡ min left entries }
-{
-    if left < entries as u64 {
-        return left as usize;
-    }
-    entries
-}
-
 // One fill from the place on, of no more entries than are left.
 pub fn fill_on(x: Listed, q: u64, rest: Rest, list: &mut [u32]) -> Gone
     requires { Owner x q × StandsIn (listed x) q rest }
     ensures { Went (listed x) q rest list.old list.new result }
 {
-    let w = x.strided;
-    let from = rest.place;
-    let left = rest.left;
     let start = Start {
-        section: w,
+        section: x.strided,
         processor: q,
         extent: Extent::Blocks,
-        place: from,
+        place: rest.place,
         quota: MOST_TRIES,
     };
-    let room = room_for(left, list.len());
+    let room = rest.left.min(list.len() as u64) as usize;
     let r = fill_from(start, &mut list[..room]);
-    let place = r.place;
     Gone {
         entries: r.entries,
         tries: r.tries,
         rest: Rest {
-            place: place,
-            left: left - r.entries as u64,
+            place: r.place,
+            left: rest.left - r.entries as u64,
         },
     }
 }
@@ -92,6 +78,7 @@ pub fn tries_of(x: Listed, q: u64, list: &mut [u32]) -> u64
 {
     let mut rest = whole(x, q);
     let mut tries: u64 = 0;
+    // Not a `for`: a fill says how much is left after it.
     while 0 < rest.left {
         let g = fill_on(x, q, rest, list);
         tries += g.tries;

@@ -11,7 +11,7 @@ fn put_section(j: u64, out: &mut [u8]) -> usize
     requires { length (83 ∷ 32 ∷ digits_of j) ≤ length out.old }
     ensures { Puts (83 ∷ 32 ∷ digits_of j) out.old 0 out.new result }
 {
-    let at = put_byte(83, out, 0);
+    let at = put_byte(b'S', out, 0);
     put_next(j, out, at)
 }
 
@@ -22,7 +22,7 @@ pub fn section_line(j: u64, count: u64, out: &mut [u8]) -> usize
 {
     let at = put_section(j, out);
     let end = put_next(count, out, at);
-    put_byte(10, out, end)
+    put_byte(b'\n', out, end)
 }
 
 // `S j E number` and a newline.
@@ -31,10 +31,10 @@ pub fn refusal_line(j: u64, number: u64, out: &mut [u8]) -> usize
     ensures { Puts (refusal_line j number) out.old 0 out.new result }
 {
     let at = put_section(j, out);
-    let blank = put_byte(32, out, at);
-    let letter = put_byte(69, out, blank);
+    let blank = put_byte(b' ', out, at);
+    let letter = put_byte(b'E', out, blank);
     let end = put_next(number, out, letter);
-    put_byte(10, out, end)
+    put_byte(b'\n', out, end)
 }
 
 // `E 14 place` and a newline.
@@ -42,10 +42,10 @@ pub fn sheet_line(place: u64, out: &mut [u8]) -> usize
     requires { length (sheet_line place) ≤ length out.old }
     ensures { Puts (sheet_line place) out.old 0 out.new result }
 {
-    let at = put_byte(69, out, 0);
+    let at = put_byte(b'E', out, 0);
     let after = put_next(14, out, at);
     let end = put_next(place, out, after);
-    put_byte(10, out, end)
+    put_byte(b'\n', out, end)
 }
 
 // What a processor's line begins with: its number, its elements and its tries.
@@ -64,10 +64,8 @@ pub fn addresses(list: &[u32], n: usize, out: &mut [u8]) -> usize
     ensures { (result ≤ 11 * n) × Puts (next_numbers (take n list.now)) out.old 0 out.new result }
 {
     let mut at: usize = 0;
-    let mut i: usize = 0;
-    while i < n {
-        at = put_next(list[i] as u64, out, at);
-        i += 1;
+    for address in &list[..n] {
+        at = put_next(u64::from(*address), out, at);
     }
     at
 }

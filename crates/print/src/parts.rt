@@ -11,9 +11,10 @@ use crate::fills::{Listed, Rest, fill_on, tries_of, whole};
 use crate::lines::{addresses, line_front, refusal_line, section_line};
 use crate::text::put_byte;
 use model::Section;
-use section::questions::{Asked, ask_section};
+use section::questions::ask_section;
 
-// What comes next: a processor's line, or the rest of its addresses; or nothing.
+// What comes next: a processor's line, or the rest of its addresses; or nothing, which is a case too, so that one match
+// has all of them.
 #[derive(Clone, Copy)]
 pub enum Turn {
     Line(Listed, u64),
@@ -23,9 +24,9 @@ pub enum Turn {
 
 // A part: how many bytes it has, and what comes after it.
 #[derive(Clone, Copy)]
-pub struct Part {
+pub struct Part<T> {
     pub bytes: usize,
-    pub next: Turn,
+    pub next: T,
 }
 
 // Processor q's line, if there is such a processor.
@@ -33,39 +34,38 @@ fn line_or_done(x: Listed, q: u64) -> Turn
     requires { Fair x }
     ensures { (text_left result ≡ lines_from (listed x) q) × Stands result }
 {
-    let l = x.strided.layout;
-    if q < l.processors {
-        return Turn::Line(x, q);
+    if q < x.strided.layout.processors {
+        Turn::Line(x, q)
+    } else {
+        Turn::Done
     }
-    Turn::Done
 }
 
 // The first line of section j, beside which no list of sizes stands.
-pub fn first_part(j: u64, x: Section, out: &mut [u8]) -> Part
+pub fn first_part(j: u64, x: Section, out: &mut [u8]) -> Part<Turn>
     requires { 64 ≤ length out.old }
     ensures { PartOf (section_text j (section_with x [])) out.new result }
 {
-    let no_sizes = [0u8; 0];
-    match ask_section(x, &no_sizes) {
-        Asked::By(w) => {
-            let y = Listed {
-                section: x,
-                strided: w,
-            };
-            Part {
-                bytes: section_line(j, w.count, out),
-                next: line_or_done(y, 0),
-            }
+    match ask_section(x, &[]) {
+        Ok(strided) => Part {
+            bytes: section_line(j, strided.count, out),
+            next: line_or_done(
+                Listed {
+                    section: x,
+                    strided,
+                },
+                0,
+            ),
         },
-        Asked::Refused(e) => Part {
-            bytes: refusal_line(j, e as u64, out),
+        Err(e) => Part {
+            bytes: refusal_line(j, u64::from(e.number()), out),
             next: Turn::Done,
         },
     }
 }
 
 // The front of processor q's line.
-fn front_part(x: Listed, q: u64, list: &mut [u32], out: &mut [u8]) -> Part
+fn front_part(x: Listed, q: u64, list: &mut [u32], out: &mut [u8]) -> Part<Turn>
     requires { Owner x q × Room list.old out.old }
     ensures { PartOf (text_left (Line x q)) out.new result }
 {
@@ -78,26 +78,25 @@ fn front_part(x: Listed, q: u64, list: &mut [u32], out: &mut [u8]) -> Part
 }
 
 // As many addresses as one fill gives, or the newline where none is left.
-fn addresses_part(x: Listed, q: u64, rest: Rest, list: &mut [u32], out: &mut [u8]) -> Part
+fn addresses_part(x: Listed, q: u64, rest: Rest, list: &mut [u32], out: &mut [u8]) -> Part<Turn>
     requires { Owner x q × StandsIn (listed x) q rest × Room list.old out.old }
     ensures { PartOf (text_left (Addresses x q rest)) out.new result }
 {
     if rest.left == 0 {
         return Part {
-            bytes: put_byte(10, out, 0),
+            bytes: put_byte(b'\n', out, 0),
             next: line_or_done(x, q + 1),
         };
     }
     let g = fill_on(x, q, rest, list);
-    let after = g.rest;
     Part {
         bytes: addresses(list, g.entries, out),
-        next: Turn::Addresses(x, q, after),
+        next: Turn::Addresses(x, q, g.rest),
     }
 }
 
 // The part that comes next.
-pub fn next_part(turn: Turn, list: &mut [u32], out: &mut [u8]) -> Part
+pub fn next_part(turn: Turn, list: &mut [u32], out: &mut [u8]) -> Part<Turn>
     requires { Stands turn × Room list.old out.old }
     ensures { PartOf (text_left turn) out.new result }
 {

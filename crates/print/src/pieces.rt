@@ -4,8 +4,8 @@ ghost use Rattle.print.specs.Turns.{Stands, Room};
 ghost use Rattle.print.specs.Pieces.{sections_from, left_text, PieceOf, OpenedOf};
 
 use crate::lines::sheet_line;
-use crate::parts::{Turn, first_part, next_part};
-use sheet::{Answer, Content, read_sheet, section_of};
+use crate::parts::{Part, Turn, first_part, next_part};
+use sheet::{Content, Malformed, NO_CONTENT, read_sheet, section_of};
 
 // What comes next: the rest of a section's print, and the sections from one on.
 #[derive(Clone, Copy)]
@@ -15,11 +15,7 @@ pub struct Left {
 }
 
 // A piece: how many bytes it has, and what comes after it.
-#[derive(Clone, Copy)]
-pub struct Piece {
-    pub bytes: usize,
-    pub next: Left,
-}
+pub type Piece = Part<Left>;
 
 // The first line of section j, if the sheet has one.
 fn section_piece(content: Content, j: u64, out: &mut [u8]) -> Piece
@@ -36,11 +32,10 @@ fn section_piece(content: Content, j: u64, out: &mut [u8]) -> Piece
         };
     }
     let part = first_part(j, section_of(content, j), out);
-    let turn = part.next;
     Piece {
         bytes: part.bytes,
         next: Left {
-            turn: turn,
+            turn: part.next,
             section: j + 1,
         },
     }
@@ -58,16 +53,13 @@ pub fn first_piece(s: &[u8], out: &mut [u8]) -> Opened
     requires { 64 ≤ length out.old }
     ensures { OpenedOf s.now out.new result }
 {
-    let read = read_sheet(s);
-    let answer = read.answer;
-    let content = read.content;
-    match answer {
-        Answer::Formed => Opened {
-            content: content,
+    match read_sheet(s) {
+        Ok(content) => Opened {
+            content,
             piece: section_piece(content, 0, out),
         },
-        Answer::Malformed(place) => Opened {
-            content: content,
+        Err(Malformed(place)) => Opened {
+            content: NO_CONTENT,
             piece: Piece {
                 bytes: sheet_line(place as u64, out),
                 next: Left {
@@ -84,16 +76,14 @@ pub fn next_piece(content: Content, left: Left, list: &mut [u32], out: &mut [u8]
     requires { Stands left.turn × Room list.old out.old }
     ensures { PieceOf content (left_text content left) out.new result }
 {
-    let turn = left.turn;
-    let part = next_part(turn, list, out);
+    let part = next_part(left.turn, list, out);
     if part.bytes == 0 {
         return section_piece(content, left.section, out);
     }
-    let next = part.next;
     Piece {
         bytes: part.bytes,
         next: Left {
-            turn: next,
+            turn: part.next,
             section: left.section,
         },
     }

@@ -4,7 +4,8 @@ use mathlib.Core.Path.{◌≡◌, refl, sym, ap, ◌∙◌, subst}
 use mathlib.Core.Bool.{Bool, true, false, cond}
 use mathlib.Core.List.{◌++◌}
 use native.Mathlib.Omega.{arith}
-use borrow.Author.Tests.{eqb-true, eqb-false, eq-eqb, ne_eqb}
+use Rattle.std.proofs.lemmas.Grind.{common_steps}
+use borrow.Author.Tests.{eq-eqb, ne_eqb}
 use lib.Dec.{eqb}
 use lib.IntN.{ℤ, pos}
 use Rattle.model.specs.Mappings.{Section}
@@ -14,12 +15,11 @@ use Rattle.model.specs.Questions.{first_no, is_below, of_mapping, of_section, of
 use Rattle.model.specs.Calls.{steps_report, section_steps, PlaceAnswer, first_place_at}
 use Rattle.model.proofs.QuestionLaws.{all_yes, asks-on, stops}
 use Rattle.model.proofs.AcceptedLaws.{mapping-yes, whole-mapping}
-use Rattle.mapping.specs.declared.questions.Mapped.TheVariants as mapped
 use Rattle.mapping.specs.Answers.{mapped_of}
 use Rattle.mapping.specs.Parts.{part_in, Listed}
 use Rattle.mapping.proofs.CallLaws.{listed_by}
 use Rattle.section.specs.declared.questions.Strided.{Strided}
-use Rattle.section.specs.declared.questions.Asked.TheVariants.{By, Refused}
+use Rattle.std.specs.Prelude.{Ok, Err}
 use Rattle.section.specs.Strides.{strided_of}
 use Rattle.section.specs.Shares.{share_in, place_by, steps_for}
 use Rattle.section.specs.Answers.{asked_of, no_steps, no_place, first_place_in}
@@ -33,48 +33,38 @@ module _ (x : Section) where
     pub none : first_no (of_section x) ≡ 0
     pub strided : w ≡ strided_of x
 
-  pub passed : (w : Strided) → asked_of x ≡ By w → Passed w
+  pub passed : (w : Strided) → asked_of x ≡ Ok w → Passed w
   unfolding asked_of
-  passed w e = go (eqb (first_no (of_section x)) 0) refl
-    where
-      go : (b : Bool) → eqb (first_no (of_section x)) 0 ≡ b → Passed w
-      go true p = record { none = eqb-true (first_no (of_section x)) 0 p; strided = let g = rw p at e in cc }
-      go false p = absurd (let f = rw p at e in let z : ◌≡◌ {A = ℕ} 0 1 = cc in omega arith)
+  passed w e = record { none = grind (arith, common_steps); strided = grind (arith, common_steps) }
 
   pub record Stopped (q : ℕ) : Type 0 where
     pub first : first_no (of_section x) ≡ q
     pub some : q ≡ 0 → ⊥
 
-  pub stopped : (q : ℕ) → asked_of x ≡ Refused q → Stopped q
+  pub stopped : (q : ℕ) → asked_of x ≡ Err q → Stopped q
   unfolding asked_of
-  stopped q e = go (eqb (first_no (of_section x)) 0) refl
-    where
-      go : (b : Bool) → eqb (first_no (of_section x)) 0 ≡ b → Stopped q
-      go true p = absurd (let f = rw p at e in let z : ◌≡◌ {A = ℕ} 0 1 = cc in omega arith)
-      go false p =
-          let f : first_no (of_section x) ≡ q = let g = rw p at e in cc in
-          record { first = f; some = λ z. eqb-false (first_no (of_section x)) 0 p (f ∙ z) }
+  stopped q e = record { first = grind (arith, common_steps); some = λ z. grind (arith, common_steps) }
 
   -- its list passed question 16
-  pub listed : (w : Strided) → asked_of x ≡ By w → Listed w.layout x.mapping.dealing
+  pub listed : (w : Strided) → asked_of x ≡ Ok w → Listed w.layout x.mapping.dealing
   unfolding mapped_of strided_of layout
   listed w e =
       let p = passed w e in
       let m = x.mapping in
-      let by : mapped_of m ≡ mapped.By (layout_of m) m.lower = rw (eq-eqb (first_no (of_mapping m)) 0 (mapping-yes x p.none)) in
-      subst (λ (v : Strided). Listed v.layout m.dealing) (sym p.strided) (listed_by m (layout_of m) m.lower by)
+      let by : mapped_of m ≡ Ok (record { layout = layout_of m; lower = m.lower }) = rw (eq-eqb (first_no (of_mapping m)) 0 (mapping-yes x p.none)) in
+      subst (λ (v : Strided). Listed v.layout m.dealing) (sym p.strided) (listed_by m (record { layout = layout_of m; lower = m.lower }) by)
 
   -- ---- section steps
 
-  pub steps-by : (w : Strided) → asked_of x ≡ By w → steps_report w.count (steps_for w x.mapping.dealing) ≡ section_steps x
+  pub steps-by : (w : Strided) → asked_of x ≡ Ok w → steps_report w.count (steps_for w x.mapping.dealing) ≡ section_steps x
   unfolding section_steps strided_of
   steps-by w e =
       let p = passed w e in
       ap (λ (v : Strided). steps_report v.count (steps_for v x.mapping.dealing)) p.strided ∙ sym (rw (p.none, steps-for x))
 
-  pub steps-refused : (q : ℕ) → asked_of x ≡ Refused q → no_steps q ≡ section_steps x
+  pub steps-refused : (q : ℕ) → asked_of x ≡ Err q → no_steps q ≡ section_steps x
   unfolding section_steps
-  steps-refused q e = let s = stopped q e in rw (s.first, ne_eqb q 0 s.some)
+  steps-refused q e = let s = stopped q e in grind (arith, common_steps)
 
   -- ---- first place
 
@@ -99,7 +89,7 @@ module _ (x : Section) where
     decided true t = refl
     decided false t = refl
 
-    pub place-by : (w : Strided) → asked_of x ≡ By w → first_place_in w x.mapping.dealing q ≡ first_place_at x q
+    pub place-by : (w : Strided) → asked_of x ≡ Ok w → first_place_in w x.mapping.dealing q ≡ first_place_at x q
     unfolding first_place_in first_place_at answer
     place-by w e =
         let p = passed w e in
@@ -107,7 +97,7 @@ module _ (x : Section) where
         let place : from w ≡ first_place x (nat q) = ap from p.strided ∙ sym (shares.place-by x p.none (nat q)) in
         decided (is_below (pos w.layout.processors) q) (from w) ∙ (λ i. answer (eighth w p i) (place i))
 
-    pub place-refused : (e : ℕ) → asked_of x ≡ Refused e → no_place e ≡ first_place_at x q
+    pub place-refused : (e : ℕ) → asked_of x ≡ Err e → no_place e ≡ first_place_at x q
     unfolding first_place_at
     place-refused e r =
         let s = stopped e r in

@@ -1,8 +1,8 @@
 -- The search for the two steps: a turn's numbers fit, it keeps the two multiples closest, and where it ends they are the steps.
-use Prim.Native.Nat.{ℕ, zero, suc, ◌+◌, ◌-◌, ◌*◌, ◌≤◌, ◌<◌}
+use Prim.Native.Nat.{ℕ, zero, suc, ◌+◌, ◌*◌, ◌≤◌, ◌<◌}
 use mathlib.Core.Path.{◌≡◌, refl, sym, subst₂, subst₃}
 use mathlib.Core.Logic.{◌⊎◌, ⊎_elim}
-use native.Mathlib.Nat.{le-mul_of_pos_right, mul-le-mul_left, mul-le-mul_right}
+use native.Mathlib.Nat.{le-mul_of_pos_right, mul-le-mul_left}
 use native.Mathlib.Omega.{arith}
 use Rattle.numbers.proofs.Division.{product_le}
 use Rattle.model.specs.Steps.{processor_step, return_step}
@@ -25,19 +25,6 @@ module _ (x y : Side) (k j : ℕ) (f : MayFall x y k) (h : j * y.left < x.left) 
   pub fall-courses : x.courses + j * y.courses ≤ 2147483647
   fall-courses =
       bound j y.left x.left x.courses y.courses 2147483647 f.some (omega arith) (omega (arith, f.courses))
-
-  pub fallen : 0 < j → k + j * y.left ≤ x.left + y.left
-      → Fallen x y k (record { count = x.count + j * y.count; courses = x.courses + j * y.courses; left = x.left - j * y.left })
-  fallen pos l =
-      record {
-        times = j;
-        count = refl;
-        courses = refl;
-        left = omega arith;
-        some = omega arith;
-        last = omega arith;
-        less = omega (arith, f.some, mul-le-mul_right y.left pos);
-      }
 
 -- ---- several turns at once
 module _ (M k S : ℕ) (M-pos : 0 < M) where

@@ -1,7 +1,6 @@
 -- Going on from a position of an accepted section in blocks: the numbers fit, and the next place is document 01's.
 use Prim.Native.Nat.{ℕ, ◌+◌, ◌*◌, ◌≤◌, ◌<◌}
 use mathlib.Core.Path.{◌≡◌, refl, ap, ◌∙◌}
-use mathlib.Core.Bool.{Bool, true, false}
 use native.Mathlib.Nat.{mul-pos}
 use mathlib.Core.Logic.{◌⊎◌, inl, inr}
 use native.Mathlib.Omega.{arith}
@@ -22,18 +21,10 @@ use Rattle.model.proofs.WalkTheorem.{Some, some-steps, next-place-by}
 use Rattle.section.specs.declared.questions.Strided.{Strided}
 use Rattle.section.specs.Strides.{strided_of, Bounded, steps_in}
 use Rattle.section.specs.Going.{on_from, next_by, next_in}
-use Rattle.section.proofs.StridedLaws.{course-high, index-inside, indices-rise, indices-fall}
+use Rattle.section.proofs.StridedLaws.{course-high}
 use Rattle.section.proofs.StridedSections.{cell-at}
 
 -- ---- the numbers fit
-
--- from the first index to that of position t
-pub way-high : (w : Strided) → Bounded w → (t : ℕ) → t < w.count → t * w.stride < 2147483648
-way-high w b t h = go w.upward refl
-  where
-    go : (u : Bool) → w.upward ≡ u → t * w.stride < 2147483648
-    go true e = omega (arith, index-inside w b t h, indices-rise w e t, b.sized.size-high)
-    go false e = omega (arith, b.first-inside (omega arith), indices-fall w b e t h, b.sized.size-high)
 
 pub spread-pos : (w : Strided) → Bounded w → 0 < w.layout.stride * w.stride
 spread-pos w b = mul-pos b.sized.stride-pos b.stride-pos

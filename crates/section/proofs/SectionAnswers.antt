@@ -5,16 +5,14 @@ use mathlib.Core.Bool.{Bool, true, false}
 use native.Mathlib.Omega.{arith}
 use borrow.Author.Tests.{eqb-true, eqb-false, ne_eqb}
 use lib.Dec.{eqb}
-use lib.IntN.{ℤ}
-use Rattle.model.specs.declared.Layout.{Layout}
 use Rattle.model.specs.Mappings.{Section}
 use Rattle.model.specs.Sections.{layout}
 use Rattle.model.specs.Questions.{first_no, of_mapping, of_triplet, of_section}
 use Rattle.model.proofs.QuestionLaws.{stops}
 use Rattle.mapping.specs.Answers.{mapped_of}
-use Rattle.mapping.specs.declared.questions.Mapped.TheVariants as mapped
+use Rattle.mapping.specs.declared.questions.Mapped.{Mapped}
 use Rattle.mapping.proofs.CallLaws.{passed, stopped}
-use Rattle.section.specs.declared.questions.Asked.TheVariants.{Refused}
+use Rattle.std.specs.Prelude.{Ok, Err}
 use Rattle.section.specs.Answers.{asked_by, asked_in, asked_of, Sound}
 use Rattle.section.proofs.StridedSections.{bounded}
 use Rattle.section.proofs.TripletAnswers.{go_on}
@@ -30,15 +28,15 @@ sound x = go (eqb (first_no (of_section x)) 0) refl
 
 module _ (x : Section) where
   -- questions 1 to 5 passed: 6 and 7 decide
-  pub mapping-accepted : (m : Layout) (low : ℤ) → mapped_of x.mapping ≡ mapped.By m low
-      → asked_in m low x.triplet.lower x.triplet.upper x.triplet.stride ≡ asked_of x
+  pub mapping-accepted : (a : Mapped) → mapped_of x.mapping ≡ Ok a
+      → asked_in a.layout a.lower x.triplet ≡ asked_of x
   unfolding layout
-  mapping-accepted m low e =
-      let p = passed x.mapping m low e in
-      (λ i. asked_in (p.layout i) (p.lower i) x.triplet.lower x.triplet.upper x.triplet.stride) ∙ go_on x p.none
+  mapping-accepted a e =
+      let p = passed x.mapping a e in
+      (λ i. asked_in (p.layout i) (p.lower i) x.triplet) ∙ go_on x p.none
 
   -- one of them did not
-  pub mapping-refused : (q : ℕ) → mapped_of x.mapping ≡ mapped.Refused q → Refused q ≡ asked_of x
+  pub mapping-refused : (q : ℕ) → mapped_of x.mapping ≡ Err q → Err q ≡ asked_of x
   unfolding asked_of
   mapping-refused q e =
       let s = stopped x.mapping q e in

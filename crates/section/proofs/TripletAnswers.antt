@@ -1,5 +1,5 @@
 -- Questions 6 and 7 of a triplet on a layout, from the answers put one after the other.
-use Prim.Native.Nat.{ℕ, ◌+◌, ◌-◌, ◌*◌, ◌≤◌, zero-le}
+use Prim.Native.Nat.{◌+◌, ◌-◌, ◌*◌, ◌≤◌, zero-le}
 use mathlib.Core.Path.{◌≡◌, refl, sym, ap, ◌∙◌}
 use mathlib.Core.Bool.{Bool, true, false, cond, ◌&&◌, ◌||◌}
 use native.Mathlib.Nat.{div-le_of_le-mul, le-mul_of_pos_right, le_refl}
@@ -9,16 +9,16 @@ use borrow.Author.Tests.{le-leb}
 use lib.IntN.{ℤ, pos, negsuc, nat_abs, ◌+ℤ◌, ◌-ℤ◌, ◌*ℤ◌, zero-*ℤ, +ℤ_idr}
 use lib.Signed.{quot_z, le_z, non_neg}
 use Rattle.numbers.proofs.Signed.{size-add, size-sub, size-quot}
-use Rattle.model.specs.declared.Layout.{Layout}
 use Rattle.model.specs.Mappings.{Section}
 use Rattle.model.specs.Ownership.{nat, from_lower}
-use Rattle.model.specs.Sections.{triplet_of, count_of, element_at, layout, count, index}
+use Rattle.model.specs.declared.Triplet.{Triplet}
+use Rattle.model.specs.Sections.{count_of, element_at, layout, count, index}
 use Rattle.model.specs.Steps.{upward}
 use Rattle.model.specs.Questions.{first_no, is_below, in_range, is_index, ends_fit, of_mapping, of_triplet}
 use Rattle.model.proofs.BoundLaws.{index-from}
 use Rattle.model.proofs.QuestionLaws.{all_yes, asks-on}
 use Rattle.model.proofs.AcceptedLaws.{Ranged, ranged, whole-mapping}
-use Rattle.section.specs.declared.questions.Asked.TheVariants.{By, Refused}
+use Rattle.std.specs.Prelude.{Ok, Err}
 use Rattle.section.specs.Strides.{ends_in, strided_of}
 use Rattle.section.specs.Answers.{asked_by, strided_in, asked_in, asked_of}
 
@@ -28,22 +28,21 @@ nat_le (pos n) = le_refl n
 nat_le (negsuc n) = zero-le
 
 -- from l to h there are at most as many elements as numbers
-module _ (l h s : ℤ) (ok : in_range (triplet_of l h s) ≡ true) where
-  r : Ranged l h s
-  r = ranged (triplet_of l h s) ok
+module _ (x : Triplet) (ok : in_range x ≡ true) where
+  r : Ranged x.lower x.upper x.stride
+  r = ranged x ok
 
-  pub count_small : count_of (triplet_of l h s) ≤ 4294967295
+  pub count_small : count_of x ≤ 4294967295
   unfolding count_of
   count_small =
-      let d : ℕ = nat_abs (h -ℤ l) in
-      let far : nat_abs (h -ℤ l +ℤ s) ≤ nat_abs s * (d + 1) =
-      omega (arith, size-add (h -ℤ l) s, le-mul_of_pos_right d r.some) in
+      let far : nat_abs (x.upper -ℤ x.lower +ℤ x.stride) ≤ nat_abs x.stride * (nat_abs (x.upper -ℤ x.lower) + 1) =
+      omega (arith, size-add (x.upper -ℤ x.lower) x.stride, le-mul_of_pos_right (nat_abs (x.upper -ℤ x.lower)) r.some) in
       omega (
         arith,
-        nat_le (quot_z (h -ℤ l +ℤ s) s),
-        size-quot (h -ℤ l +ℤ s) s,
-        div-le_of_le-mul (nat_abs s) far,
-        size-sub h l,
+        nat_le (quot_z (x.upper -ℤ x.lower +ℤ x.stride) x.stride),
+        size-quot (x.upper -ℤ x.lower +ℤ x.stride) x.stride,
+        div-le_of_le-mul (nat_abs x.stride) far,
+        size-sub x.upper x.lower,
         r.lower,
         r.upper,
       )
@@ -55,23 +54,7 @@ up-sign : (s : ℤ) → le_z (pos 0) s ≡ non_neg s
 up-sign (pos n) = le-leb 0 n zero-le
 up-sign (negsuc n) = refl
 
--- the three answers to questions 6 and 7
-module _ (m : Layout) (lower l h s : ℤ) where
-  pub range-refused : in_range (triplet_of l h s) ≡ false → Refused 6 ≡ asked_in m lower l h s
-  unfolding asked_in
-  range-refused e = rw e
-
-  module _ (ok : in_range (triplet_of l h s) ≡ true) where
-    pub ends-refused : ends_in m.size lower l s (count_of (triplet_of l h s)) ≡ false → Refused 7 ≡ asked_in m lower l h s
-    unfolding asked_in
-    ends-refused e = rw (ok, e)
-
-    pub triplet-accepted : ends_in m.size lower l s (count_of (triplet_of l h s)) ≡ true
-        → By (strided_in m lower l h s) ≡ asked_in m lower l h s
-    unfolding asked_in
-    triplet-accepted e = rw (ok, e)
-
--- they are those of a section whose mapping passed
+-- the answers to questions 6 and 7 are those of a section whose mapping passed
 module _ (x : Section) (ok : first_no (of_mapping x.mapping) ≡ 0) where
   abbrev l : ℤ
   l = x.triplet.lower
@@ -90,21 +73,21 @@ module _ (x : Section) (ok : first_no (of_mapping x.mapping) ≡ 0) where
       ap (is_index x.mapping) (first-element l s) ∙ index_below l in
       λ i. eqb (count x) 0 || (first i && index_below (l +ℤ pos (count x - 1) *ℤ s) i)
 
-  strided-same : strided_in (layout x) x.mapping.lower l x.triplet.upper s ≡ strided_of x
+  strided-same : strided_in (layout x) x.mapping.lower x.triplet ≡ strided_of x
   unfolding strided_of count index element_at from_lower upward
   strided-same =
       let first : nat (l -ℤ x.mapping.lower) ≡ nat (l +ℤ pos 0 *ℤ s -ℤ x.mapping.lower) =
       ap (λ (z : ℤ). nat (z -ℤ x.mapping.lower)) (sym (first-element l s)) in
       λ i. record { layout = layout x; count = count x; first = record { 0 = first i }; stride = nat_abs s; upward = up-sign s i }
 
-  decided : (ranged ends : Bool) → cond ranged (cond ends (By (strided_of x)) (Refused 7)) (Refused 6) ≡ asked_by x (cond ranged (cond ends 0 7) 6)
+  decided : (ranged ends : Bool) → cond ranged (cond ends (Ok (strided_of x)) (Err 7)) (Err 6) ≡ asked_by x (cond ranged (cond ends 0 7) 6)
   decided true true = refl
   decided true false = refl
   decided false ends = refl
 
-  pub go_on : asked_in (layout x) x.mapping.lower l x.triplet.upper s ≡ asked_of x
+  pub go_on : asked_in (layout x) x.mapping.lower x.triplet ≡ asked_of x
   unfolding asked_in asked_of first_no count
   go_on =
-      (λ i. cond (in_range x.triplet) (cond (sym ends_same i) (By (strided-same i)) (Refused 7)) (Refused 6))
+      (λ i. cond (in_range x.triplet) (cond (sym ends_same i) (Ok (strided-same i)) (Err 7)) (Err 6))
       ∙ decided (in_range x.triplet) (ends_fit x)
       ∙ ap (asked_by x) (sym (asks-on (of_mapping x.mapping) (of_triplet x) (all_yes (of_mapping x.mapping) refl ok)))

@@ -8,8 +8,7 @@ use native.Mathlib.Nat.{mod-lt, mod-eq_of_lt, add-mod}
 use native.Mathlib.Decide.{dec_lt}
 use native.Mathlib.Omega.{arith}
 use borrow.Author.Tests.{lt-ltb, le-ltb}
-use Rattle.numbers.specs.declared.Hit.{Hit}
-use Rattle.numbers.specs.declared.Hit.TheVariants.{At}
+use Rattle.std.specs.Prelude.{Option, Some}
 use Rattle.numbers.specs.Search.{passing, head_or}
 use Rattle.numbers.specs.FirstHit.{within, first_of, first_hit}
 use Rattle.numbers.proofs.Division.{rest-mul}
@@ -61,7 +60,7 @@ module _ {c low high m lo hi : ℕ} (v : Seen c low high m lo hi) (lc : c < m) (
   unfolding first_hit first_from
   from-outside s = ap first_of (passing-same (λ t. within lo hi (t * s % m)) (reaches c s m low high) m 0 (λ t h l. seen_at s t))
 
-pub from-inside : (c s m low high : ℕ) → c < m → low ≤ c → c ≤ high → At 0 ≡ first_from c s m low high
+pub from-inside : (c s m low high : ℕ) → c < m → low ≤ c → c ≤ high → Some 0 ≡ first_from c s m low high
 unfolding first_from
 from-inside c s m low high lc h l =
     let z : (c + 0 * s) % m ≡ c = ap (λ (n : ℕ). n % m) (omega arith) ∙ mod-eq_of_lt lc in
@@ -81,7 +80,7 @@ module _ (c s m low high n : ℕ) (m-pos : 0 < m) (g : ℕ → Bool) (same : (t 
       add-mod c (t % m * s) m ∙ ap (λ (x : ℕ). (c % m + x) % m) (rest-mul m s t) ∙ sym (add-mod c (t * s) m) in
       subst (λ (y : ℕ). within low high y ≡ true) (sym p) e
 
-  place_of : {r : Hit} → First f 0 m r → found_below n r ≡ head_or n (passing g 0 n)
+  place_of : {r : Option ℕ} → First f 0 m r → found_below n r ≡ head_or n (passing g 0 n)
   unfolding f
   place_of (first t h l p least) = elim (dec_lt t n) [
     | yes v ↦ rw (lt-ltb t n v) (sym (head_first g n 0 n (first t (omega arith) (omega arith) (same t v ∙ p) (λ j z e. early v j e))))

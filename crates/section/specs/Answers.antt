@@ -1,54 +1,54 @@
 -- The answers of this crate, each case read as document 01's numbers. Definitions only.
-use Rattle.std.specs.Prelude.{ℕ, ◌≤◌, ◌<◌, Bool, true, false, cond, List, [], ◌∷◌, eqb, ℤ, pos, nat_abs, ◌-ℤ◌}
+use Rattle.std.specs.Prelude.{ℕ, ◌≤◌, ◌<◌, Bool, true, false, cond, eqb, ℤ, pos, nat_abs, ◌-ℤ◌, Result, Ok, Err}
 use Rattle.std.specs.Int.Signed.{le_z}
 use Rattle.model.specs.declared.Layout.{Layout}
+use Rattle.model.specs.declared.Position.{Position}
+use Rattle.model.specs.declared.refusals.Refusal.{Refusal}
+use Rattle.model.specs.Refusals.{number}
 use Rattle.model.specs.Mappings.{Dealing, Section}
 use Rattle.model.specs.declared.Step.{Step}
 use Rattle.model.specs.declared.Steps.{Steps}
 use Rattle.model.specs.declared.Steps.TheVariants.{NoStep, OneStep, TwoSteps}
 use Rattle.model.specs.Ownership.{nat}
-use Rattle.model.specs.Sections.{triplet_of, count_of}
+use Rattle.model.specs.declared.Triplet.{Triplet}
+use Rattle.model.specs.Sections.{count_of}
 use Rattle.model.specs.Questions.{is_below, in_range, first_no, of_section}
 use Rattle.model.specs.Calls.{StepReport, no_report, forward, backward, SectionStepsAnswer, PlaceAnswer}
 use Rattle.mapping.specs.Parts.{part_in}
-use Rattle.section.specs.declared.questions.Asked.{Asked}
-use Rattle.section.specs.declared.questions.Asked.TheVariants.{By, Refused}
 use Rattle.section.specs.declared.questions.Strided.{Strided}
 use Rattle.section.specs.declared.report.Reported.{Reported}
 use Rattle.section.specs.declared.report.SectionSteps.{SectionSteps}
 use Rattle.section.specs.declared.report.SectionSteps.TheVariants as steps
-use Rattle.section.specs.declared.place.Placed.{Placed}
-use Rattle.section.specs.declared.place.Placed.TheVariants as placed
 use Rattle.section.specs.Strides.{ends_in, strided_of, Bounded}
 use Rattle.section.specs.Shares.{share_in, place_by}
 
 -- the section if its questions, of which e is the first that is answered no, passed
-abbrev pub asked_by : Section → ℕ → Asked
-asked_by x e = cond (eqb e 0) (By (strided_of x)) (Refused e)
+abbrev pub asked_by : Section → ℕ → Result Strided ℕ
+asked_by x e = cond (eqb e 0) (Ok (strided_of x)) (Err e)
 
--- l:h:s on a layout whose first index is lower
-abbrev pub strided_in : Layout → ℤ → ℤ → ℤ → ℤ → Strided
-strided_in m lower l h s = record {
+-- a triplet on a layout whose first index is lower
+abbrev pub strided_in : Layout → ℤ → Triplet → Strided
+strided_in m lower x = record {
   layout = m;
-  count = count_of (triplet_of l h s);
-  first = record { 0 = nat (l -ℤ lower) };
-  stride = nat_abs s;
-  upward = le_z (pos 0) s;
+  count = count_of x;
+  first = record { 0 = nat (x.lower -ℤ lower) };
+  stride = nat_abs x.stride;
+  upward = le_z (pos 0) x.stride;
 }
 
 -- questions 6 and 7 of it, and 1 to 7 of a section
-unfoldable pub asked_in : Layout → ℤ → ℤ → ℤ → ℤ → Asked
-asked_in m lower l h s =
-    let ends = ends_in m.size lower l s (count_of (triplet_of l h s)) in
-    cond (in_range (triplet_of l h s)) (cond ends (By (strided_in m lower l h s)) (Refused 7)) (Refused 6)
+unfoldable pub asked_in : Layout → ℤ → Triplet → Result Strided ℕ
+asked_in m lower x =
+    let ends = ends_in m.size lower x.lower x.stride (count_of x) in
+    cond (in_range x) (cond ends (Ok (strided_in m lower x)) (Err 7)) (Err 6)
 
-unfoldable pub asked_of : Section → Asked
+unfoldable pub asked_of : Section → Result Strided ℕ
 asked_of x = asked_by x (first_no (of_section x))
 
 -- what is known of each case: an accepted section has every bound
-abbrev pub Sound : Asked → Type 0
-Sound (By w) = Bounded w
-Sound (Refused q) = 0 < q
+abbrev pub Sound : Result Strided ℕ → Type 0
+Sound (Ok w) = Bounded w
+Sound (Err q) = 0 < q
 
 -- ---- section steps
 
@@ -58,18 +58,15 @@ no_steps e = record { refusal = e; count = 0; steps = 0; first = no_report; seco
 abbrev pub step_as : Reported → StepReport
 step_as r = record { cells = r.cells; courses = r.courses; column = r.column }
 
-abbrev pub steps_as : SectionSteps → SectionStepsAnswer
-steps_as (steps.NoStep n) = record { refusal = 0; count = n; steps = 0; first = no_report; second = no_report }
-steps_as (steps.OneStep n r) = record { refusal = 0; count = n; steps = 1; first = step_as r; second = no_report }
-steps_as (steps.TwoSteps n r w) = record { refusal = 0; count = n; steps = 2; first = step_as r; second = step_as w }
-steps_as (steps.Refused e) = no_steps e
+abbrev pub report_as : SectionSteps → SectionStepsAnswer
+report_as (steps.NoStep n) = record { refusal = 0; count = n; steps = 0; first = no_report; second = no_report }
+report_as (steps.OneStep n r) = record { refusal = 0; count = n; steps = 1; first = step_as r; second = no_report }
+report_as (steps.TwoSteps n r w) = record { refusal = 0; count = n; steps = 2; first = step_as r; second = step_as w }
 
--- the numbers of the refusals that it holds, if any
-abbrev pub steps_refusals : SectionSteps → List ℕ
-steps_refusals (steps.NoStep n) = []
-steps_refusals (steps.OneStep n r) = []
-steps_refusals (steps.TwoSteps n r w) = []
-steps_refusals (steps.Refused e) = e ∷ []
+-- or the refusal
+abbrev pub steps_as : Result SectionSteps Refusal → SectionStepsAnswer
+steps_as (Ok r) = report_as r
+steps_as (Err e) = no_steps (number e)
 
 -- a step that goes back, or on
 abbrev pub report_by : Bool → Step → StepReport
@@ -87,13 +84,9 @@ Short n (TwoSteps r w) = (r.column ≤ n) × (w.column ≤ n)
 abbrev pub no_place : ℕ → PlaceAnswer
 no_place e = record { refusal = e; place = 0 }
 
-abbrev pub placed_as : Placed → PlaceAnswer
-placed_as (placed.At t) = record { refusal = 0; place = t.0 }
-placed_as (placed.Refused e) = no_place e
-
-abbrev pub placed_refusals : Placed → List ℕ
-placed_refusals (placed.At t) = []
-placed_refusals (placed.Refused e) = e ∷ []
+abbrev pub placed_as : Result Position Refusal → PlaceAnswer
+placed_as (Ok t) = record { refusal = 0; place = t.0 }
+placed_as (Err e) = no_place (number e)
 
 -- what is left to ask of an accepted section, and the answer
 unfoldable pub first_place_in : Strided → Dealing → ℤ → PlaceAnswer

@@ -1,7 +1,5 @@
 -- The parts of the search for a processor's first place. Definitions only.
-use Rattle.std.specs.Prelude.{ℕ, ◌+◌, ◌*◌, ◌%◌, ◌≤◌, ◌<◌, Bool, cond, ltb}
-use Rattle.numbers.specs.declared.Hit.{Hit}
-use Rattle.numbers.specs.declared.Hit.TheVariants.{At, Nothing}
+use Rattle.std.specs.Prelude.{ℕ, ◌+◌, ◌*◌, ◌%◌, ◌≤◌, ◌<◌, Bool, cond, ltb, Option, Some, None}
 use Rattle.numbers.specs.Search.{passing}
 use Rattle.numbers.specs.FirstHit.{within, first_of}
 
@@ -10,13 +8,13 @@ abbrev pub reaches : ℕ → ℕ → ℕ → ℕ → ℕ → ℕ → Bool
 reaches c s m low high t = within low high ((c + t * s) % m)
 
 -- the least t at which it is; the columns repeat after m
-unfoldable pub first_from : ℕ → ℕ → ℕ → ℕ → ℕ → Hit
+unfoldable pub first_from : ℕ → ℕ → ℕ → ℕ → ℕ → Option ℕ
 first_from c s m low high = first_of (passing (reaches c s m low high) 0 m)
 
 -- a position found, if it is below n; else n
-abbrev pub found_below : ℕ → Hit → ℕ
-found_below n (At t) = cond (ltb t n) t n
-found_below n Nothing = n
+abbrev pub found_below : ℕ → Option ℕ → ℕ
+found_below n (Some t) = cond (ltb t n) t n
+found_below n None = n
 
 -- a column c and a block of k columns from low on, in a course of m
 pub record Block (c s m low k : ℕ) : Type 0 where

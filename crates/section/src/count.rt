@@ -1,43 +1,39 @@
 // A triplet's count and its elements, on signed numbers in range.
 ghost use Rattle.std.specs.Prelude.{◌≡◌, true, ◌≤◌, pos, nat_abs, ◌+ℤ◌, ◌*ℤ◌};
 ghost use Rattle.model.specs.Questions.{in_range};
-ghost use Rattle.model.specs.Sections.{triplet_of, count_of};
+ghost use Rattle.model.specs.Sections.{count_of};
 ghost use Rattle.model.specs.Cases.{case_of};
 
-use mapping::questions::natural;
-use model::{Case, Declared, Position};
+use model::{Case, Declared, Position, Triplet};
 
 // Which case l:h:s is.
-fn case_of(l: i64, h: i64, s: i64) -> Case
-    requires { in_range (triplet_of l h s) ≡ true }
-    ensures { result ≡ case_of (triplet_of l h s) }
+fn case_of(x: Triplet) -> Case
+    ensures { result ≡ case_of x }
 {
-    let up = h - l;
-    if 0 < s && 0 <= up {
+    if 0 < x.stride && x.lower <= x.upper {
         return Case::Forward {
-            distance: natural(up),
-            stride: natural(s),
+            distance: x.upper.abs_diff(x.lower),
+            stride: x.stride.unsigned_abs(),
         };
     }
-    let down = l - h;
-    let back = 0 - s;
-    if s < 0 && 0 <= down {
+    if x.stride < 0 && x.upper <= x.lower {
         return Case::Backward {
-            distance: natural(down),
-            stride: natural(back),
+            distance: x.lower.abs_diff(x.upper),
+            stride: x.stride.unsigned_abs(),
         };
     }
     Case::Empty
 }
 
 // How many elements l:h:s has: l itself, and one for each stride within the distance.
-pub fn count_of(l: i64, h: i64, s: i64) -> u64
-    requires { in_range (triplet_of l h s) ≡ true }
-    ensures { result ≡ count_of (triplet_of l h s) }
+pub fn count_of(x: Triplet) -> u64
+    requires { in_range x ≡ true }
+    ensures { result ≡ count_of x }
 {
-    match case_of(l, h, s) {
-        Case::Forward { distance, stride } => distance / stride + 1,
-        Case::Backward { distance, stride } => distance / stride + 1,
+    match case_of(x) {
+        Case::Forward { distance, stride } | Case::Backward { distance, stride } => {
+            distance / stride + 1
+        }
         Case::Empty => 0,
     }
 }
@@ -49,15 +45,4 @@ pub fn element_at(l: Declared, s: i64, t: Position) -> Declared
     ensures result_bound { nat_abs result.0 ≤ 9223372034707292160 }
 {
     Declared(l.0 + (t.0 as i64) * s)
-}
-
-// The size of s.
-pub fn size_of(s: i64) -> u64
-    requires { nat_abs s ≤ 2147483647 }
-    ensures { result ≡ nat_abs s }
-{
-    if s < 0 {
-        return natural(0 - s);
-    }
-    natural(s)
 }

@@ -27,14 +27,11 @@ fn line_of(w: Strided) -> Layout
     requires { Bounded w × (0 < w.count) }
     ensures { result ≡ line_of w }
 {
-    let l = w.layout;
     Layout {
-        cells: l.cells,
-        processors: l.processors,
-        block: l.block,
         stride: spread_of(w),
         offset: cell_at(w, lowest_in(w)).0,
         size: w.count,
+        ..w.layout
     }
 }
 

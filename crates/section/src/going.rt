@@ -42,10 +42,7 @@ fn moved_on(w: Strided, t: Position, n: u64) -> Position
     ensures { result.0 ≡ on_from w t.0 n }
 {
     let on = n / spread_of(w);
-    if on < w.count - t.0 {
-        return Position(t.0 + on);
-    }
-    Position(w.count)
+    Position(t.0 + on.min(w.count - t.0))
 }
 
 // The next place after position t.

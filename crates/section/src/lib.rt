@@ -7,11 +7,12 @@
 ghost use Rattle.std.specs.Prelude.{◌≡◌};
 ghost use Rattle.model.specs.Mappings.{section_with};
 ghost use Rattle.model.specs.Calls.{section_steps, first_place_at, ToldApart};
-ghost use Rattle.section.specs.Answers.{steps_as, steps_refusals, placed_as, placed_refusals};
+ghost use Rattle.model.specs.Refusals.{refusals};
+ghost use Rattle.section.specs.Answers.{steps_as, placed_as};
 
-use model::Section;
-use place::{Placed, placed_in};
-use questions::{Asked, ask_section};
+use model::{Position, Refusal, Section};
+use place::placed_in;
+use questions::ask_section;
 use report::{SectionSteps, report_of};
 use steps::steps_by;
 
@@ -27,27 +28,19 @@ pub mod steps;
 pub mod strides;
 
 // The count of a section and its steps.
-pub fn section_steps(x: Section, sizes: &[u8]) -> SectionSteps
+pub fn section_steps(x: Section, sizes: &[u8]) -> Result<SectionSteps, Refusal>
     ensures result_value { steps_as result ≡ section_steps (section_with x sizes.now) }
-    ensures told_apart { ToldApart (steps_refusals result) }
+    ensures told_apart { ToldApart (refusals result) }
 {
-    let m = x.mapping;
-    let d = m.dealing;
-    match ask_section(x, sizes) {
-        Asked::By(w) => report_of(w.count, steps_by(w, d)),
-        Asked::Refused(q) => SectionSteps::Refused(q),
-    }
+    let w = ask_section(x, sizes)?;
+    Ok(report_of(w.count, steps_by(w, x.mapping.dealing)))
 }
 
 // The lowest position whose element the processor owns, or the count if there is none.
-pub fn first_place(x: Section, sizes: &[u8], processor: i64) -> Placed
+pub fn first_place(x: Section, sizes: &[u8], processor: i64) -> Result<Position, Refusal>
     ensures result_value { placed_as result ≡ first_place_at (section_with x sizes.now) processor }
-    ensures told_apart { ToldApart (placed_refusals result) }
+    ensures told_apart { ToldApart (refusals result) }
 {
-    let m = x.mapping;
-    let d = m.dealing;
-    match ask_section(x, sizes) {
-        Asked::By(w) => placed_in(w, d, sizes, processor),
-        Asked::Refused(q) => Placed::Refused(q),
-    }
+    let w = ask_section(x, sizes)?;
+    placed_in(w, x.mapping.dealing, sizes, processor)
 }

@@ -6,18 +6,19 @@ ghost use Rattle.section.specs.Places.{first_from, found_below, Block};
 ghost use Rattle.model.specs.Mappings.{dealing_with};
 ghost use Rattle.mapping.specs.Parts.{Listed};
 ghost use Rattle.model.specs.Calls.{ToldApart};
-ghost use Rattle.section.specs.Answers.{placed_as, placed_refusals, first_place_in};
+ghost use Rattle.model.specs.Refusals.{refusals};
+ghost use Rattle.section.specs.Answers.{placed_as, first_place_in};
 
 use crate::questions::{Strided, is_processor};
 use crate::shares::{first_of, share_of};
 use crate::strides::{course_cells, spread_of};
 use mapping::dealing::cell_of;
-use model::{Dealing, Position};
-use numbers::{Hit, first_hit};
+use model::{Dealing, Position, Refusal};
+use numbers::first_hit;
 
 // The least t at which c + t * s lies in the block of k columns from low on, in courses of
 // m columns. The block is seen from c: ahead in the same course or in the next.
-fn first_owned(c: u64, s: u64, m: u64, low: u64, k: u64) -> Hit
+fn first_owned(c: u64, s: u64, m: u64, low: u64, k: u64) -> Option<u64>
     requires { Block c s m low k }
     ensures { result ≡ first_from c s m low (low + (k - 1)) }
 {
@@ -28,17 +29,14 @@ fn first_owned(c: u64, s: u64, m: u64, low: u64, k: u64) -> Hit
     if high < c {
         return first_hit(s, m, low + m - c, high + m - c);
     }
-    Hit::At(0)
+    Some(0)
 }
 
 // The position found if it is below the count; else the count.
-fn found_below(h: Hit, count: u64) -> Position
+fn found_below(h: Option<u64>, count: u64) -> Position
     ensures { result.0 ≡ found_below count h }
 {
-    match h {
-        Hit::At(t) => Position(if t < count { t } else { count }),
-        Hit::Nothing => Position(count),
-    }
+    Position(h.unwrap_or(count).min(count))
 }
 
 // The lowest position whose element processor q owns, or the count if there is none.
@@ -64,23 +62,14 @@ pub fn place_of(w: Strided, q: u64) -> Position
     found_below(first_owned(column, s, m, block, k), w.count)
 }
 
-// A processor's first place, or the number of the question that was answered no.
-#[derive(Clone, Copy)]
-pub enum Placed {
-    At(Position),
-    Refused(u32),
-}
-
 // Question 8, and the first place of a processor that passes it.
-pub fn placed_in(w: Strided, d: Dealing, sizes: &[u8], processor: i64) -> Placed
+pub fn placed_in(w: Strided, d: Dealing, sizes: &[u8], processor: i64) -> Result<Position, Refusal>
     requires { Bounded w × Listed w.layout (dealing_with d sizes.now) }
     ensures result_value { placed_as result ≡ first_place_in w (dealing_with d sizes.now) processor }
-    ensures told_apart { ToldApart (placed_refusals result) }
+    ensures told_apart { ToldApart (refusals result) }
 {
-    let l = w.layout;
-    if !is_processor(l, processor) {
-        return Placed::Refused(8);
+    if !is_processor(w.layout, processor) {
+        return Err(Refusal::Processor);
     }
-    let s = share_of(w, d, sizes, processor);
-    Placed::At(first_of(s))
+    Ok(first_of(share_of(w, d, sizes, processor)))
 }

@@ -2,29 +2,23 @@
 // and the section that passes them, on natural numbers.
 ghost use Rattle.std.specs.Prelude.{◌≡◌, ◌≤◌, pos, nat_abs, ◌-ℤ◌};
 ghost use Rattle.model.specs.Mappings.{section_with};
-ghost use Rattle.model.specs.Sections.{triplet_of};
 ghost use Rattle.model.specs.Questions.{is_below, in_range};
+ghost use Rattle.model.specs.Refusals.{by_number};
 ghost use Rattle.section.specs.Strides.{ends_in};
 ghost use Rattle.section.specs.Answers.{asked_of, asked_in, Sound};
 
-use crate::count::{count_of, element_at, size_of};
+use crate::count::{count_of, element_at};
 use mapping::questions::{Mapped, ask_mapping, is_below, list_fits, natural, within};
-use model::{Declared, Index, Layout, MOST, Position, Section};
+use model::{Declared, Index, Layout, MOST, Position, Refusal, Section, Triplet};
 
 // Question 6.
-fn in_range(l: i64, h: i64, s: i64) -> bool
-    ensures { result ≡ in_range (triplet_of l h s) }
+fn in_range(x: Triplet) -> bool
+    ensures { result ≡ in_range x }
 {
-    if !within(-MOST, MOST, l) {
-        return false;
-    }
-    if !within(-MOST, MOST, h) {
-        return false;
-    }
-    if !within(-MOST, MOST, s) {
-        return false;
-    }
-    s != 0
+    within(-MOST, MOST, x.lower)
+        && within(-MOST, MOST, x.upper)
+        && within(-MOST, MOST, x.stride)
+        && x.stride != 0
 }
 
 // Is j an index of an array of n elements, of which lower is the first?
@@ -50,7 +44,9 @@ fn ends_in(n: u64, lower: i64, l: Declared, s: i64, c: u64) -> bool
 }
 
 // A section that passed its questions: its count, the index from 0 of its first element, the
-// size of s, and whether the section goes up.
+// size of s, and whether the section goes up. No methods: what follows from it are functions of the
+// other modules, which crates above name.
+// No ghost field says that it is in range (`Bounded`): `strided_of` makes one of any section.
 #[derive(Clone, Copy)]
 pub struct Strided {
     pub layout: Layout,
@@ -60,47 +56,37 @@ pub struct Strided {
     pub upward: bool,
 }
 
-// An accepted section, or the number of the question that was answered no.
-#[derive(Clone, Copy)]
-pub enum Asked {
-    By(Strided),
-    Refused(u32),
-}
-
-// Questions 6 and 7, of an array whose first index is lower, and the section that passes
-// them.
-fn triplet_asked(m: Layout, lower: i64, l: i64, h: i64, s: i64) -> Asked
-    requires { nat_abs lower ≤ 2147483647 }
-    ensures { result ≡ asked_in m lower l h s }
+// Questions 6 and 7, of an array whose mapping passed, and the section that passes them.
+fn triplet_asked(array: Mapped, x: Triplet) -> Result<Strided, Refusal>
+    requires { nat_abs array.lower ≤ 2147483647 }
+    ensures { by_number result ≡ asked_in array.layout array.lower x }
 {
-    if !in_range(l, h, s) {
-        return Asked::Refused(6);
+    if !in_range(x) {
+        return Err(Refusal::Triplet);
     }
-    let c = count_of(l, h, s);
-    if !ends_in(m.size, lower, Declared(l), s, c) {
-        return Asked::Refused(7);
+    let l = array.layout;
+    let c = count_of(x);
+    if !ends_in(l.size, array.lower, Declared(x.lower), x.stride, c) {
+        return Err(Refusal::Ends);
     }
-    Asked::By(Strided {
-        layout: m,
+    Ok(Strided {
+        layout: l,
         count: c,
-        first: Index(natural(l - lower)),
-        stride: size_of(s),
-        upward: 0 <= s,
+        first: Index(natural(x.lower - array.lower)),
+        stride: x.stride.unsigned_abs(),
+        upward: 0 <= x.stride,
     })
 }
 
 // Questions 1 to 7, 15 and 16, and the section that passes them.
-pub fn ask_section(x: Section, sizes: &[u8]) -> Asked
-    ensures value { result ≡ asked_of (section_with x sizes.now) }
-    ensures sound { Sound result }
+pub fn ask_section(x: Section, sizes: &[u8]) -> Result<Strided, Refusal>
+    ensures value { by_number result ≡ asked_of (section_with x sizes.now) }
+    ensures sound { Sound (by_number result) }
 {
     let m = x.mapping;
-    let t = x.triplet;
     let listed = list_fits(m, sizes);
-    match ask_mapping(m, sizes, listed) {
-        Mapped::By(l, lower) => triplet_asked(l, lower, t.lower, t.upper, t.stride),
-        Mapped::Refused(q) => Asked::Refused(q),
-    }
+    let array = ask_mapping(m, sizes, listed)?;
+    triplet_asked(array, x.triplet)
 }
 
 // Question 8.

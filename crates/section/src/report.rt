@@ -1,7 +1,7 @@
 // The steps of a section as they are reported, with the sign of each column move.
 ghost use Rattle.std.specs.Prelude.{◌≡◌, ◌≤◌};
-ghost use Rattle.model.specs.Calls.{steps_report, ToldApart};
-ghost use Rattle.section.specs.Answers.{step_as, steps_as, steps_refusals, report_by, Short};
+ghost use Rattle.model.specs.Calls.{steps_report};
+ghost use Rattle.section.specs.Answers.{step_as, report_as, report_by, Short};
 
 use model::{Step, Steps};
 
@@ -13,14 +13,12 @@ pub struct Reported {
     pub column: i64,
 }
 
-// The count of a section with its steps, the processor step before the return step; or the
-// number of the question that was answered no.
+// The count of a section with its steps, the processor step before the return step.
 #[derive(Clone, Copy)]
 pub enum SectionSteps {
     NoStep(u64),
     OneStep(u64, Reported),
     TwoSteps(u64, Reported, Reported),
-    Refused(u32),
 }
 
 // A step that goes back moves its columns back.
@@ -32,15 +30,14 @@ fn report_step(r: Step, back: bool) -> Reported
     Reported {
         cells: r.cells,
         courses: r.courses,
-        column: if back { 0 - y } else { y },
+        column: if back { -y } else { y },
     }
 }
 
 // The steps of a section of so many elements.
 pub fn report_of(count: u64, s: Steps) -> SectionSteps
     requires { Short 2147483647 s }
-    ensures result_value { steps_as result ≡ steps_report count s }
-    ensures told_apart { ToldApart (steps_refusals result) }
+    ensures { report_as result ≡ steps_report count s }
 {
     match s {
         Steps::NoStep => SectionSteps::NoStep(count),

@@ -31,12 +31,43 @@ pub struct Span {
     pub base: Index,
 }
 
+impl Span {
+    fn has(self, t: Position) -> bool
+        ensures { result ≡ owned_in self t.0 }
+    {
+        self.low.0 <= t.0 && t.0 < self.high.0
+    }
+
+    // Its first position in a section of so many, or the count if there is none.
+    fn first(self, count: u64) -> Position
+        ensures { result.0 ≡ first_in self count }
+    {
+        if self.low.0 < self.high.0 {
+            return self.low;
+        }
+        Position(count)
+    }
+
+    // Its position after t, or the count if t is the last.
+    fn after(self, t: Position, count: u64) -> Position
+        requires { t.0 < 4294967296 }
+        ensures { result.0 ≡ after_in self count t.0 }
+    {
+        if t.0 + 1 < self.high.0 {
+            return Position(t.0 + 1);
+        }
+        Position(count)
+    }
+}
+
+// Not an 'Option': blocks are positions as much as a run is, and the names say which.
 #[derive(Clone, Copy)]
 pub enum Extent {
     Blocks,
     Run(Span),
 }
 
+// No ghost field says that it is of a processor of the section (`Fitted`): `share_in` makes one of any number.
 #[derive(Clone, Copy)]
 pub struct Share {
     pub section: Strided,
@@ -44,28 +75,22 @@ pub struct Share {
     pub extent: Extent,
 }
 
-// By how much a is above b.
-fn above(a: u64, b: u64) -> u64
-    ensures { result ≡ a - b }
-{
-    if a <= b {
-        return 0;
-    }
-    a - b
-}
-
 // How many positions come before cell c: going up those on cells below it, going down those on cells
 // not below it.
 fn positions_to(w: Strided, c: Cell) -> Position
-    requires { Bounded w × (0 < w.count) × (c.0 ≤ 2 ^ 42) }
+    requires { Bounded w × (c.0 ≤ 2 ^ 42) }
     ensures { result.0 ≡ positions_to w c.0 }
 {
-    let first = cell_at(w, Position(0)).0;
-    let s = spread_of(w);
-    if w.upward {
-        return Position(multiples_below(s, w.count, above(c.0, first)));
+    if w.count == 0 {
+        return Position(0);
     }
-    Position(multiples_below(s, w.count, above(first + 1, c.0)))
+    let first = cell_at(w, Position(0)).0;
+    let distance = if w.upward {
+        c.0.saturating_sub(first)
+    } else {
+        (first + 1).saturating_sub(c.0)
+    };
+    Position(multiples_below(spread_of(w), w.count, distance))
 }
 
 // The positions on the cells of a run.
@@ -73,26 +98,21 @@ fn span_of(w: Strided, r: Run) -> Span
     requires { Bounded w × Low (Part.Run r) }
     ensures { result ≡ span_in w r }
 {
-    let l = w.layout;
-    let base = index_from(l, r.start);
-    if w.count == 0 {
-        return Span {
-            low: Position(0),
-            high: Position(0),
-            base,
-        };
-    }
+    let base = index_from(w.layout, r.start);
+    let start = positions_to(w, r.start);
+    let end = positions_to(w, r.end);
     if w.upward {
-        return Span {
-            low: positions_to(w, r.start),
-            high: positions_to(w, r.end),
+        Span {
+            low: start,
+            high: end,
             base,
-        };
-    }
-    Span {
-        low: positions_to(w, r.end),
-        high: positions_to(w, r.start),
-        base,
+        }
+    } else {
+        Span {
+            low: end,
+            high: start,
+            base,
+        }
     }
 }
 
@@ -121,35 +141,16 @@ pub fn share_of(w: Strided, d: Dealing, sizes: &[u8], processor: i64) -> Share
     }
 }
 
-fn in_span(r: Span, t: Position) -> bool
-    ensures { result ≡ owned_in r t.0 }
-{
-    if t.0 < r.low.0 {
-        return false;
-    }
-    t.0 < r.high.0
-}
-
 // Does the processor own the element at position t?
 pub fn owns_at(s: Share, t: Position) -> bool
     requires { Shared s t.0 }
     ensures { result ≡ owned_by s t.0 }
 {
     let w = s.section;
-    let e = s.extent;
-    match e {
+    match s.extent {
         Extent::Blocks => owned_at(w, s.processor, t),
-        Extent::Run(r) => in_span(r, t),
+        Extent::Run(r) => r.has(t),
     }
-}
-
-fn first_in(r: Span, count: u64) -> Position
-    ensures { result.0 ≡ first_in r count }
-{
-    if r.low.0 < r.high.0 {
-        return r.low;
-    }
-    Position(count)
 }
 
 // The first place, or the count if there is none.
@@ -158,21 +159,10 @@ pub fn first_of(s: Share) -> Position
     ensures { result.0 ≡ place_by s }
 {
     let w = s.section;
-    let e = s.extent;
-    match e {
+    match s.extent {
         Extent::Blocks => place_of(w, s.processor),
-        Extent::Run(r) => first_in(r, w.count),
+        Extent::Run(r) => r.first(w.count),
     }
-}
-
-fn after(r: Span, count: u64, t: Position) -> Position
-    requires { t.0 < 4294967296 }
-    ensures { result.0 ≡ after_in r count t.0 }
-{
-    if t.0 + 1 < r.high.0 {
-        return Position(t.0 + 1);
-    }
-    Position(count)
 }
 
 // The next place after position t, by the section's steps where there are blocks.
@@ -181,10 +171,9 @@ pub fn next_of(s: Share, steps: Steps, t: Position) -> Position
     ensures { result.0 ≡ next_by s t.0 }
 {
     let w = s.section;
-    let e = s.extent;
-    match e {
+    match s.extent {
         Extent::Blocks => next_place(w, steps, t),
-        Extent::Run(r) => after(r, w.count, t),
+        Extent::Run(r) => r.after(t, w.count),
     }
 }
 
@@ -201,8 +190,7 @@ pub fn address_of(s: Share, t: Position) -> Address
     ensures { result.0 ≡ address_by s t.0 }
 {
     let w = s.section;
-    let e = s.extent;
-    match e {
+    match s.extent {
         Extent::Blocks => address_at(w, t),
         Extent::Run(r) => address_in(w, r, t),
     }
@@ -214,9 +202,8 @@ pub fn elements_in(s: Share) -> u64
     ensures { result ≡ held_by s }
 {
     let w = s.section;
-    let e = s.extent;
-    match e {
+    match s.extent {
         Extent::Blocks => elements_of(w, s.processor),
-        Extent::Run(r) => above(r.high.0, r.low.0),
+        Extent::Run(r) => r.high.0.saturating_sub(r.low.0),
     }
 }

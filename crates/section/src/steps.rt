@@ -55,6 +55,7 @@ pub struct Pair {
 
 // Both steps: a is above its courses, b below, no smaller multiple comes nearer, and each
 // turn the one that is further away falls by the other.
+// A 'loop' that yields by 'break', and no 'for': how many turns it takes is not known ahead.
 fn two_steps(s: u64, m: u64, k: u64) -> Pair
     requires { Searched s m k }
     ensures { (result.processor ≡ processor_step m k s) × (result.back ≡ return_step m k s) }
@@ -121,9 +122,7 @@ pub fn steps_of(w: Strided) -> Steps
         return Steps::OneStep(one_step(s, m, d));
     }
     let pair = two_steps(s, m, k);
-    let r = pair.processor;
-    let b = pair.back;
-    Steps::TwoSteps(r, b)
+    Steps::TwoSteps(pair.processor, pair.back)
 }
 
 // And of a GEN_BLOCK template: one section stride, within one course.

@@ -1,11 +1,12 @@
 -- Numbers with no sign: their reading is a format, in which a number's text is its digits and the byte that ends it.
 use Prim.Native.Nat.{ℕ, ◌+◌, ◌*◌, ◌-◌, ◌/◌, ◌%◌, ◌≤◌, ◌<◌}
 use mathlib.Core.Path.{◌≡◌, refl, sym, ◌∙◌, ap}
-use mathlib.Core.Bool.{Bool, true, false, cond}
+use mathlib.Core.Bool.{Bool, true, false}
 use mathlib.Core.List.{List, [], ◌∷◌, ◌++◌, append_assoc, append-nil}
 use native.Mathlib.Omega.{arith}
-use lib.Dec.{ltb, leb, eqb}
-use borrow.Author.Tests.{ltb-true, lt-ltb, leb-true, le-leb, eqb-true, eq-eqb, ne_eqb}
+use lib.Dec.{eqb}
+use borrow.Author.Tests.{eqb-true, eq-eqb, ne_eqb}
+use Rattle.std.proofs.lemmas.Bool.Decides.{nat_tests}
 use Rattle.model.specs.Sheets.{digits_of}
 use Rattle.sheet.specs.Reading.{Got, got, bad}
 use Rattle.sheet.specs.Numbers.{grows, digits, starts, natural}
@@ -14,12 +15,6 @@ use Rattle.sheet.proofs.DigitLaws.{one-digit, more-digits, by_digits, digit-afte
 
 -- ---- one byte, by its tests
 
--- a chain of tests that passed
-all : (a b : Bool) → cond a b false ≡ true → (a ≡ true) × (b ≡ true)
-all true b e = (refl, e)
-all false true e = (e, refl)
-all false false e = (e, e)
-
 pub record Grows (m n b : ℕ) : Type 0 where
   pub some : 0 < n
   pub low : 48 ≤ b
@@ -27,25 +22,15 @@ pub record Grows (m n b : ℕ) : Type 0 where
   pub small : n * 10 + (b - 48) < m
 
 pub grown : (m n b : ℕ) → grows m n b ≡ true → Grows m n b
-grown m n b e =
-    let x = all (ltb 0 n) (cond (leb 48 b) (cond (leb b 57) (ltb (n * 10 + (b - 48)) m) false) false) e in
-    let y = all (leb 48 b) (cond (leb b 57) (ltb (n * 10 + (b - 48)) m) false) x.1 in
-    let z = all (leb b 57) (ltb (n * 10 + (b - 48)) m) y.1 in
-    record {
-      some = ltb-true _ _ x.0;
-      low = leb-true _ _ y.0;
-      high = leb-true _ _ z.0;
-      small = ltb-true _ _
-          z.1;
-    }
+grown m n b e = record {
+  some = grind (arith, nat_tests);
+  low = grind (arith, nat_tests);
+  high = grind (arith, nat_tests);
+  small = grind (arith, nat_tests);
+}
 
 pub to-grow : (m n b : ℕ) → Grows m n b → grows m n b ≡ true
-to-grow m n b g = rw (
-  lt-ltb 0 n g.some,
-  le-leb 48 b g.low,
-  le-leb b 57 g.high,
-  lt-ltb (n * 10 + (b - 48)) m g.small,
-)
+to-grow m n b g = grind (arith, nat_tests)
 
 pub record Starts (low m b : ℕ) : Type 0 where
   pub least : 48 + low ≤ b
@@ -53,13 +38,10 @@ pub record Starts (low m b : ℕ) : Type 0 where
   pub small : b - 48 < m
 
 pub started : (low m b : ℕ) → starts low m b ≡ true → Starts low m b
-started low m b e =
-    let x = all (leb (48 + low) b) (cond (leb b 57) (ltb (b - 48) m) false) e in
-    let y = all (leb b 57) (ltb (b - 48) m) x.1 in
-    record { least = leb-true _ _ x.0; high = leb-true _ _ y.0; small = ltb-true _ _ y.1 }
+started low m b e = record { least = grind (arith, nat_tests); high = grind (arith, nat_tests); small = grind (arith, nat_tests) }
 
 pub to_start : (low m b : ℕ) → Starts low m b → starts low m b ≡ true
-to_start low m b s = rw (le-leb (48 + low) b s.least, le-leb b 57 s.high, lt-ltb (b - 48) m s.small)
+to_start low m b s = grind (arith, nat_tests)
 
 -- ---- further digits
 

@@ -3,58 +3,30 @@ use Prim.Native.Nat.{ℕ, zero, suc, ◌+◌, ◌-◌, ◌≤◌, ◌<◌}
 use mathlib.Core.Path.{◌≡◌, refl, sym, ◌∙◌, ap}
 use mathlib.Core.List.{List, [], ◌∷◌, ◌++◌, append_assoc, append-nil}
 use native.Mathlib.Omega.{arith}
-use native.Mathlib.Nat.{sub-zero}
 use native.Mathlib.Numerals.{add-one}
-use lib.ListN.{length, take, drop, set, replicate, get_or, length-set, length-replicate}
+use lib.ListN.{length, take, drop, set, replicate, get_or, length-set}
 use lib.Seq.{take-suc-set, drop-set-lt, drop-cons}
-use Rattle.sheet.specs.declared.Line.{Line}
-use Rattle.sheet.specs.declared.part.Part.{Part}
-use Rattle.sheet.specs.declared.part.PartRead.{PartRead}
-use Rattle.sheet.specs.declared.part.Ended.TheVariants.{At, Bad as Off}
 use Rattle.sheet.specs.Reading.{Got, got, bad, map_got, rows}
-use Rattle.sheet.specs.Numbers.{natural}
-use Rattle.sheet.specs.Parts.{limit, lines, part}
-use Rattle.sheet.specs.Contents.{no_line, lines_of}
-use Rattle.sheet.specs.Answers.{found, failed, ended_found, Answers, PartAnswers}
-use Rattle.sheet.proofs.AnswerLaws.{second-only}
 
--- Of n values, i stand in the first of some rows, and at is the place after them; y is what is read in all. A row without a
--- value holds none.
-pub record Filling {A : Type 0} (none : A) (room : ℕ) (s : List ℕ) (r : ℕ → List ℕ → Got A) (n : ℕ) (y : Got (List A))
-    (held : List A) (at i : ℕ) : Type 0 where
+-- Of n values, i stand in the first of some rows, and the bytes s follow; y is what is read in all. A row without a value
+-- holds none.
+pub record Filling {A : Type 0} (none : A) (room : ℕ) (r : ℕ → List ℕ → Got A) (n : ℕ) (y : Got (List A)) (held : List A)
+    (s : List ℕ) (i : ℕ) : Type 0 where
   pub upto : i ≤ n
-  pub within : at ≤ length s
   pub long : length held ≡ room
   pub rest : drop i held ≡ replicate (room - i) none
-  pub reads : map_got (λ l. take i held ++ l) (rows r (n - i) (drop at s)) ≡ y
+  pub reads : map_got (λ l. take i held ++ l) (rows r (n - i) s) ≡ y
 
-module _ {A : Type 0} (none : A) (room : ℕ) (s : List ℕ) (r : ℕ → List ℕ → Got A) (n : ℕ) where
-  pub none_read : (at : ℕ) → at ≤ length s → Filling none room s r n (rows r n (drop at s)) (replicate room none) at 0
-  none_read at h =
-      record {
-        upto = omega arith;
-        within = h;
-        long = length-replicate room none;
-        rest = rw (sub-zero room);
-        reads = rw (sub-zero n) (same (rows r n (drop at s)));
-      }
-    where
-      same : (y : Got (List A)) → map_got (λ l. [] ++ l) y ≡ y
-      same (got l t) = refl
-      same (bad t) = refl
-
-  module _ {y : Got (List A)} {held : List A} {at i : ℕ} (f : Filling none room s r n y held at i) where
+module _ {A : Type 0} (none : A) (room : ℕ) (r : ℕ → List ℕ → Got A) (n : ℕ) where
+  module _ {y : Got (List A)} {held : List A} {s : List ℕ} {i : ℕ} (f : Filling none room r n y held s i) where
     module _ (h : n ≤ i) where
       all : i ≡ n
       all = omega (arith, f.upto)
 
-      pub all_read : Answers s (found (take n held) at) y
+      pub all_read : got (take n held) s ≡ y
       all_read =
           let over : n - i ≡ 0 = omega arith in
-          record {
-            reads = ap (λ (l : List A). got l (drop at s)) (sym (append-nil (take n held))) ∙ rw (over, all) at f.reads;
-            within = f.within;
-          }
+          ap (λ (l : List A). got l s) (sym (append-nil (take n held))) ∙ rw (over, all) at f.reads
 
       pub rest-none : drop n held ≡ replicate (room - n) none
       rest-none = rw all at f.rest
@@ -64,20 +36,16 @@ module _ {A : Type 0} (none : A) (room : ℕ) (s : List ℕ) (r : ℕ → List �
       fewer : n - i ≡ suc (n - (i + 1))
       fewer = omega arith
 
-      pub one-refused : {p : ℕ} → Answers s (failed p) (r (n - (i + 1)) (drop at s)) → Answers s (failed p) y
-      one-refused {p} a = record { reads = rw (← a.reads) at (rw fewer at f.reads); within = a.within }
-
-      pub one-read : {v : A} {p : ℕ} → n ≤ room → Answers s (found v p) (r (n - (i + 1)) (drop at s))
-          → Filling none room s r n y (set held i v) p (i + 1)
-      one-read {v} {p} k a =
+      pub one-read : {v : A} {t : List ℕ} → n ≤ room → got v t ≡ r (n - (i + 1)) s
+          → Filling none room r n y (set held i v) t (i + 1)
+      one-read {v} {t} k a =
           record {
             upto = omega arith;
-            within = a.within;
             long = length-set held i v ∙ f.long;
             rest = drop-set-lt (i + 1) held i v (omega arith)
                 ∙ rw add-one (tail (drop (suc i) held)
                 (sym (drop-cons held i none inside) ∙ f.rest ∙ ap (λ (m : ℕ). replicate m none) left));
-            reads = rw first (more (rows r (n - (i + 1)) (drop p s))) ∙ rw (← a.reads) at (rw fewer at f.reads);
+            reads = rw first (more (rows r (n - (i + 1)) t)) ∙ rw (← a) at (rw fewer at f.reads);
           }
         where
           inside : i < length held
@@ -109,27 +77,3 @@ kept_row none [] (suc k) zero = refl
 kept_row none [] (suc k) (suc i) = kept_row none [] k i
 kept_row none (x ∷ l) k zero = refl
 kept_row none (x ∷ l) k (suc i) = kept_row none l k i
-
--- ---- a part: its count, and then its lines
-
-pub part_off : {s : List ℕ} {y : Got (List Line)} {p : ℕ} → Answers s (failed p) y
-    → PartAnswers s (record { ended = Off p; lines = lines_of [] }) y
-part_off a = record { answers = a; few = omega arith; long = refl; rest = refl }
-
-pub part-full : {s : List ℕ} {r : ℕ → List ℕ → Got Line} {n at i : ℕ} {y : Got (List Line)} {held : List Line}
-    → Filling no_line 64 s r n y held at i → n ≤ i → n ≤ 64
-    → PartAnswers s (record { ended = At (record { at = at }); lines = record { count = n; rows = held } }) y
-part-full f h k =
-    record { answers = all_read _ _ _ _ _ f h; few = k; long = f.long; rest = rest-none _ _ _ _ _ f h }
-
-pub part-read : (k : Part) (x : List ℕ) {s : List ℕ} {n p : ℕ} {r : PartRead}
-    → Answers s (found n p) (natural 0 (limit k) 10 x) → PartAnswers s r (lines k n (drop p s))
-    → PartAnswers s r (part k x)
-part-read k x {r = r} a h =
-    record {
-      answers = second-only (natural 0 (limit k) 10) (lines k)
-          (ended_found (take r.lines.count r.lines.rows) r.ended) a h.answers;
-      few = h.few;
-      long = h.long;
-      rest = h.rest;
-    }

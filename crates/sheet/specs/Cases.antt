@@ -19,7 +19,7 @@ pub record Case : Type 0 where
 abbrev pub holds : Case → Bool
 holds c =
     let s = bytes_of c.sheet in
-    let r = (read_as (length s) (read_sheet s)).answer in
+    let r = read_as (length s) (read_sheet s) in
     eqb (refusal_in r) c.refusal && eqb (place_in r) c.place
 
 abbrev pub every : List Case → Bool

@@ -5,8 +5,9 @@ use Rattle.model.specs.Sheets.{TemplateLine, ArrayLine, SectionLine, Sheet, sect
 use Rattle.sheet.specs.declared.Line.{Line}
 use Rattle.sheet.specs.declared.Lines.{Lines}
 use Rattle.sheet.specs.declared.Content.{Content}
+use Rattle.sheet.specs.declared.part.Part.{Part}
 use Rattle.sheet.specs.Reading.{Got, via, whole}
-use Rattle.sheet.specs.Parts.{Parts, parts}
+use Rattle.sheet.specs.Parts.{lines, part, Parts, parts}
 
 -- ---- lines as the model has them, and back; a line that has fewer than five numbers has 0 for the others
 
@@ -90,8 +91,19 @@ no_line = record { name = 0; first = pos 0; second = pos 0; third = pos 0; fourt
 abbrev pub lines_of : List Line → Lines
 lines_of l = record { count = length l; rows = l ++ replicate (64 - length l) no_line }
 
+-- n lines of a part, and all of it, kept so
+abbrev pub kept_lines : Part → ℕ → List ℕ → Got Lines
+kept_lines k n = via lines_of (lines k n)
+
+abbrev pub kept_part : Part → List ℕ → Got Lines
+kept_part k = via lines_of (part k)
+
 abbrev pub kept : Parts → Content
 kept w = record { templates = lines_of w.templates; arrays = lines_of w.arrays; sections = lines_of w.sections }
+
+-- the three parts and nothing after them, kept so
+abbrev pub kept_whole : List ℕ → Got Content
+kept_whole s = whole (via kept parts s)
 
 abbrev pub content_of : Sheet → Content
 content_of w = kept (from_sheet w)

@@ -6,11 +6,10 @@
 ghost use Rattle.std.specs.Prelude.{◌≡◌, [], length, get_or};
 ghost use Rattle.model.specs.Mappings.{section_with};
 ghost use Rattle.sheet.specs.Contents.{read_sheet, no_line, section_in};
-ghost use Rattle.sheet.specs.Answers.{refused_at, read_as, Promised};
+ghost use Rattle.sheet.specs.Answers.{read_as, Promised};
 
 use model::{Dealing, Mapping, Section, Triplet};
 use number::Cursor;
-use part::{Ended, Part};
 
 mod number;
 mod part;
@@ -27,7 +26,8 @@ pub struct Line {
     pub fifth: i64,
 }
 
-// The lines of a part stand in its first rows; the other rows are 0.
+// The lines of a part stand in its first rows; the other rows are 0. An array with a count beside it, since
+// nothing here is on the heap.
 #[derive(Clone, Copy)]
 pub struct Lines {
     pub count: usize,
@@ -56,67 +56,25 @@ pub struct Content {
     pub sections: Lines,
 }
 
-// The answer to question 14: yes, or no with the place of the refusal.
-#[derive(Clone, Copy)]
-pub enum Answer {
-    Formed,
-    Malformed(usize),
-}
+// No lines: for a caller that needs some content where a sheet is refused.
+pub const NO_CONTENT: Content = Content {
+    templates: NO_LINES,
+    arrays: NO_LINES,
+    sections: NO_LINES,
+};
 
-// The answer, and the content, which is all 0 where the sheet is refused.
+// Refusal 14, with its place.
 #[derive(Clone, Copy)]
-pub struct SheetRead {
-    pub answer: Answer,
-    pub content: Content,
-}
-
-fn refused(place: usize) -> SheetRead
-    ensures { result ≡ refused_at place }
-{
-    SheetRead {
-        answer: Answer::Malformed(place),
-        content: Content {
-            templates: NO_LINES,
-            arrays: NO_LINES,
-            sections: NO_LINES,
-        },
-    }
-}
+pub struct Malformed(pub usize);
 
 // Is the print of a well-formed sheet all that `s` is? Then its content, else the refusal.
-pub fn read_sheet(s: &[u8]) -> SheetRead
+pub fn read_sheet(s: &[u8]) -> Result<Content, Malformed>
     ensures value { result ≡ read_as (length s.now) (read_sheet s.now) }
     ensures promised { Promised s.now result }
 {
-    let first = part::part_at(s, Cursor { at: 0 }, Part::Templates);
-    let ended = first.ended;
-    let Ended::At(c1) = ended else {
-        return refused(part::ended_place(ended));
-    };
-    let templates = first.lines;
-    let second = part::part_at(s, c1, Part::Arrays(templates.count as u64));
-    let ended = second.ended;
-    let Ended::At(c2) = ended else {
-        return refused(part::ended_place(ended));
-    };
-    let arrays = second.lines;
-    let third = part::part_at(s, c2, Part::Sections(arrays.count as u64));
-    let ended = third.ended;
-    let Ended::At(c3) = ended else {
-        return refused(part::ended_place(ended));
-    };
-    let sections = third.lines;
-    let at = c3.at;
-    if at < s.len() {
-        return refused(at);
-    }
-    SheetRead {
-        answer: Answer::Formed,
-        content: Content {
-            templates,
-            arrays,
-            sections,
-        },
+    match (Cursor { rest: s }).content() {
+        Ok((content, _)) => Ok(content),
+        Err(stop) => Err(Malformed(s.len() - stop.rest.len())),
     }
 }
 
@@ -124,10 +82,7 @@ pub fn read_sheet(s: &[u8]) -> SheetRead
 fn row(rows: [Line; 64], i: u64) -> Line
     ensures { result ≡ get_or rows i no_line }
 {
-    if 64 <= i {
-        return NO_LINE;
-    }
-    rows[i as usize]
+    rows.get(i as usize).copied().unwrap_or(NO_LINE)
 }
 
 // What section j stands for: its triplet, and the mapping of the array and the template that

@@ -1,149 +1,76 @@
 // A number on the sheet and the byte that ends it.
-ghost use Rattle.std.specs.Prelude.{◌≡◌, ◌<◌, ◌≤◌, pos, neg_ℤ, length, drop};
+ghost use Rattle.std.specs.Prelude.{◌≡◌, ◌<◌, ◌≤◌};
 ghost use Rattle.sheet.specs.Numbers.{digits, natural, number};
-ghost use Rattle.sheet.specs.Answers.{Answers, place_of, natural_found, number_found};
+ghost use Rattle.sheet.specs.Answers.{got_in};
 
-// A byte place on the sheet.
+// A byte place on the sheet: the bytes from there on.
 #[derive(Clone, Copy)]
-pub struct Cursor {
-    pub at: usize,
+pub struct Cursor<'a> {
+    pub rest: &'a [u8],
 }
 
-// A number with no sign and the cursor after the byte that ends it, or the place of the first
-// byte that cannot stand there.
-#[derive(Clone, Copy)]
-pub enum Natural {
-    Value(u64, Cursor),
-    Bad(usize),
-}
-
-// The same of a number with an optional minus.
-#[derive(Clone, Copy)]
-pub enum Number {
-    Value(i64, Cursor),
-    Bad(usize),
-}
+// What was read and the cursor after it, or the cursor at the first byte that cannot stand there.
+pub type Read<'a, T> = Result<(T, Cursor<'a>), Cursor<'a>>;
 
 // A number's size is below this.
 const SIZES: u64 = 2147483648;
 
-fn wide(x: u8) -> u64
-    ensures { result ≡ x }
-{
-    x as u64
-}
-
-// Further digits after those of `first`, below `max`, up to the byte `end`.
-fn more_digits(s: &[u8], c: Cursor, first: u64, max: u64, end: u8) -> Natural
-    requires { (c.at ≤ length s.now) × (first < max) × (max ≤ 2147483648) }
-    ensures { Answers s.now (natural_found result) (digits max end first (drop c.at s.now)) }
-{
-    let mut n = first;
-    let mut at = c.at;
-    while at < s.len() {
-        let b = s[at];
-        if b == end {
-            return Natural::Value(n, Cursor { at: at + 1 });
+impl<'a> Cursor<'a> {
+    // Further digits after those of `first`, below `max`, up to the byte `end`.
+    fn more_digits(self, first: u64, max: u64, end: u8) -> Read<'a, u64>
+        requires { (first < max) × (max ≤ 2147483648) }
+        ensures { got_in result ≡ digits max end first self.entry.rest.now }
+    {
+        let mut n = first;
+        let mut rest = self.rest;
+        // Not a `for` over the bytes: each step needs those that are left, too.
+        while let Some((b, after)) = rest.split_first() {
+            if *b == end {
+                return Ok((n, Cursor { rest: after }));
+            }
+            if !b.is_ascii_digit() || n == 0 {
+                return Err(Cursor { rest });
+            }
+            n = n * 10 + u64::from(*b - b'0');
+            if max <= n {
+                return Err(Cursor { rest });
+            }
+            rest = after;
         }
-        if n == 0 {
-            return Natural::Bad(at);
-        }
-        if b < b'0' {
-            return Natural::Bad(at);
-        }
-        if b'9' < b {
-            return Natural::Bad(at);
-        }
-        let next = n * 10 + wide(b - b'0');
-        if max <= next {
-            return Natural::Bad(at);
-        }
-        n = next;
-        at += 1;
+        Err(Cursor { rest })
     }
-    Natural::Bad(at)
-}
 
-// A number from `low` (0 or 1) and below `max`, with no sign, and the byte `end`.
-pub fn natural_at(s: &[u8], c: Cursor, low: u64, max: u64, end: u8) -> Natural
-    requires { (c.at ≤ length s.now) × (low ≤ 1) × (max ≤ 2147483648) }
-    ensures { Answers s.now (natural_found result) (natural low max end (drop c.at s.now)) }
-{
-    let at = c.at;
-    if s.len() <= at {
-        return Natural::Bad(at);
-    }
-    let b = s[at];
-    if b < b'0' {
-        return Natural::Bad(at);
-    }
-    if b'9' < b {
-        return Natural::Bad(at);
-    }
-    let digit = wide(b - b'0');
-    if digit < low {
-        return Natural::Bad(at);
-    }
-    if max <= digit {
-        return Natural::Bad(at);
-    }
-    more_digits(s, Cursor { at: at + 1 }, digit, max, end)
-}
-
-// The place where a reading ended.
-pub fn natural_place(r: Natural) -> usize
-    ensures { result ≡ place_of (natural_found r) }
-{
-    match r {
-        Natural::Value(_, c) => c.at,
-        Natural::Bad(p) => p,
-    }
-}
-
-// A number of size n, with either sign.
-fn plus(n: u64) -> i64
-    requires { n < 2147483648 }
-    ensures { result ≡ pos n }
-{
-    n as i64
-}
-
-fn minus(n: u64) -> i64
-    requires { n < 2147483648 }
-    ensures { result ≡ neg_ℤ (pos n) }
-{
-    0 - (n as i64)
-}
-
-// A number with an optional minus, and the byte `end`.
-pub fn number_at(s: &[u8], c: Cursor, end: u8) -> Number
-    requires { (c.at ≤ length s.now) × (end < 48) }
-    ensures { Answers s.now (number_found result) (number end (drop c.at s.now)) }
-{
-    let at = c.at;
-    if s.len() <= at {
-        return Number::Bad(at);
-    }
-    if s[at] == b'-' {
-        let size = natural_at(s, Cursor { at: at + 1 }, 1, SIZES, end);
-        let Natural::Value(n, next) = size else {
-            return Number::Bad(natural_place(size));
+    // A number from `low` (0 or 1) and below `max`, with no sign, and the byte `end`.
+    pub fn natural(self, low: u64, max: u64, end: u8) -> Read<'a, u64>
+        requires { (low ≤ 1) × (max ≤ 2147483648) }
+        ensures { got_in result ≡ natural low max end self.entry.rest.now }
+    {
+        let Some((b, rest)) = self.rest.split_first() else {
+            return Err(self);
         };
-        return Number::Value(minus(n), next);
+        if !b.is_ascii_digit() {
+            return Err(self);
+        }
+        let digit = u64::from(*b - b'0');
+        if digit < low || max <= digit {
+            return Err(self);
+        }
+        Cursor { rest }.more_digits(digit, max, end)
     }
-    let size = natural_at(s, c, 0, SIZES, end);
-    let Natural::Value(n, next) = size else {
-        return Number::Bad(natural_place(size));
-    };
-    Number::Value(plus(n), next)
-}
 
-// The place where a reading ended.
-pub fn number_place(r: Number) -> usize
-    ensures { result ≡ place_of (number_found r) }
-{
-    match r {
-        Number::Value(_, c) => c.at,
-        Number::Bad(p) => p,
+    // A number with an optional minus, and the byte `end`.
+    pub fn number(self, end: u8) -> Read<'a, i64>
+        requires { end < 48 }
+        ensures { got_in result ≡ number end self.entry.rest.now }
+    {
+        let Some((b, rest)) = self.rest.split_first() else {
+            return Err(self);
+        };
+        if *b == b'-' {
+            let (size, next) = Cursor { rest }.natural(1, SIZES, end)?;
+            return Ok((-(size as i64), next));
+        }
+        let (size, next) = self.natural(0, SIZES, end)?;
+        Ok((size as i64, next))
     }
 }

@@ -1,13 +1,14 @@
 -- Copies of runs, one after the other. Assumes nothing.
-use Prim.Native.Nat.{ℕ, ◌+◌, ◌-◌, ◌≤◌, ◌<◌}
+use Prim.Native.Nat.{ℕ, ◌+◌, ◌-◌, ◌≤◌, ◌<◌, min}
 use mathlib.Core.Path.{◌≡◌, refl, sym, ap, ◌∙◌}
 use mathlib.Core.Bool.{Bool, true, false}
 use mathlib.Core.List.{List}
 use mathlib.Core.Logic.{◌⊎◌, inl, inr}
 use native.Mathlib.Omega.{arith}
-use lib.Dec.{ltb}
+use lib.Dec.{eqb, ltb}
+use borrow.Author.Tests.{eqb-true}
 use lib.ListN.{length, get_or, set, length-set}
-use borrow.Author.Tests.{ltb-true, ltb-false}
+use Rattle.std.proofs.lemmas.Bool.{cases_lt}
 use Rattle.model.specs.declared.Layout.{Layout}
 use Rattle.model.specs.Ownership.{owner_of}
 use Rattle.model.specs.Storages.{storage_place}
@@ -17,7 +18,7 @@ use Rattle.model.proofs.StorageLaws.{place-below}
 use Rattle.storage.specs.declared.runs.Pace.{Pace}
 use Rattle.storage.specs.declared.runs.Run.{Run}
 use Rattle.storage.specs.Pacing.{length_at, next_run, Within, Stands}
-use Rattle.storage.specs.Copying.{pointer, Points, copied_run, least_of, from_place, to_place, from_places, to_places, copied_on, Ready, Takes}
+use Rattle.storage.specs.Copying.{pointer, Points, copied_run, taken_of, from_place, to_place, from_places, to_places, copied_on, Ready, Takes}
 use Rattle.storage.proofs.PaceLaws.{run-owner, next-stands, within}
 use Rattle.storage.proofs.RowLaws.{run-place, points_on}
 
@@ -72,27 +73,29 @@ pub record Cut (n : ℕ) (r : Run) (len : ℕ) : Type 0 where
   pub all : (len ≡ r.length) ⊎ (r.index.0 + len ≡ n)
 
 module _ {l : Layout} {p : Pace} {r : Run} {row s to : List ℕ} (h : Ready l p r row s to) where
-  pub least-cut : Cut l.size r (least_of r.length (l.size - r.index.0))
-  least-cut = go (ltb r.length (l.size - r.index.0)) refl
+  -- what is taken of the run
+  pub taken-cut : (longest : ℕ) → (longest ≡ 1 → p.many ≡ 1) → Cut l.size r (taken_of longest l r)
+  taken-cut longest one = go (eqb longest 1) refl
     where
-      go : (b : Bool) → ltb r.length (l.size - r.index.0) ≡ b → Cut l.size r (least_of r.length (l.size - r.index.0))
+      shorter : (r.length < l.size - r.index.0) ⊎ (l.size - r.index.0 ≤ r.length)
+          → (min r.length (l.size - r.index.0) ≡ r.length) ⊎ (r.index.0 + min r.length (l.size - r.index.0) ≡ l.size)
+      shorter (inl k) = inl (omega arith)
+      shorter (inr k) = inr (omega (arith, h.index))
+
+      go : (b : Bool) → eqb longest 1 ≡ b → Cut l.size r (taken_of longest l r)
       go true e =
-          let k = ltb-true r.length (l.size - r.index.0) e in
-          rw e (record { some = h.stands.some; within = omega arith; below = omega arith; all = inl refl })
+          let many = one (eqb-true longest 1 e) in
+          let lone : r.length ≡ 1 =
+          lone-length p h.paced.few-pos h.paced.few-le many h.stands.before r.length r.column h.stands.length h.stands.some in
+          rw e (record { some = omega arith; within = omega arith; below = omega (arith, h.index); all = inl (sym lone) })
       go false e =
-          let k = ltb-false r.length (l.size - r.index.0) e in
           rw e
           (record {
-            some = omega (arith, h.index);
-            within = k;
+            some = omega (arith, h.index, h.stands.some);
+            within = omega arith;
             below = omega (arith, h.index);
-            all = inr (omega (arith, h.index));
+            all = shorter (cases_lt r.length (l.size - r.index.0));
           })
-
-  pub one-cut : p.many ≡ 1 → Cut l.size r 1
-  one-cut e =
-      let one : r.length ≡ 1 = lone-length p h.paced.few-pos h.paced.few-le e h.stands.before r.length r.column h.stands.length h.stands.some in
-      record { some = omega arith; within = omega arith; below = omega (arith, h.index); all = inl (sym one) }
 
   -- where the run's words lie in the storage: what the row has
   abbrev pub at : ℕ
@@ -190,26 +193,7 @@ abbrev pub Goes : Bool → Layout → Pace → Run → Run → List ℕ → List
 Goes b l p start r s row to row' to' = ((r ≡ start) × (row' ≡ row) × (to' ≡ to)) ⊎ Takes b l p start r s row to row' to'
 
 module _ {b : Bool} {l : Layout} {p : Pace} {start r : Run} {s row to row' to' : List ℕ} (h : Ready l p start row s to) where
-  pub goes-ready : Goes b l p start r s row to row' to' → r.index.0 < l.size → r.processor < l.processors → Ready l p r row' s to'
-  goes-ready (inl e) k q = rw (e.0, e.1, e.2) h
-  goes-ready (inr t) k q = ready_on h t r refl k (t.stands k) q
-
   pub goes_on : {e : Run} {row'' to'' : List ℕ} → Goes b l p start r s row to row' to' → Takes b l p r e s row' to' row'' to''
       → Takes b l p start e s row to row'' to''
   goes_on {e} {row''} {to''} (inl g) t = rw (g.0, g.1, g.2) at t
   goes_on (inr g) t = takes-join g t
-
-  -- a lap ends past the last processor, or at the array's end: it took some
-  pub goes_end : Goes b l p start r s row to row' to' → (l.processors ≤ r.processor) ⊎ (l.size ≤ r.index.0) → Takes b l p start r s row to row' to'
-  goes_end (inl e) (inl k) = absurd (omega (arith, h.processor, ap (λ (x : Run). x.processor) e.0))
-  goes_end (inl e) (inr k) = absurd (omega (arith, h.index, ap (λ (x : Run). x.index.0) e.0))
-  goes_end (inr t) k = t
-
-  -- the lists keep their lengths
-  pub goes-row : Goes b l p start r s row to row' to' → length row' ≡ length row
-  goes-row (inl e) = ap length e.1
-  goes-row (inr t) = t.row-length
-
-  pub goes-length : Goes b l p start r s row to row' to' → length to' ≡ length to
-  goes-length (inl e) = ap length e.2
-  goes-length (inr t) = taken-length h t

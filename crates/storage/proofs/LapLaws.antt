@@ -9,7 +9,6 @@ use lib.ListN.{length}
 use Rattle.model.specs.declared.Layout.{Layout}
 use Rattle.model.specs.Ownership.{cell_owner}
 use Rattle.model.specs.Storages.{copied}
-use Rattle.model.proofs.CopyLaws.{copied-length}
 use Rattle.storage.specs.declared.runs.Pace.{Pace}
 use Rattle.storage.specs.declared.runs.Run.{Run}
 use Rattle.storage.specs.Pacing.{pace_of, first_run, wrapped_run}
@@ -45,9 +44,6 @@ along-start b l row s to h = record {
 }
 
 module _ {b : Bool} {l : Layout} {p : Pace} {s row to row' to' : List ℕ} {r : Run} (a : Along b l p s row to row' to' r) where
-  pub along-length : length to' ≡ length to
-  along-length = ap length a.words ∙ copied-length _ _ r.index.0 s to
-
   pub along-on : (k : r.index.0 < l.size) {e : Run} {row'' to'' : List ℕ} → Takes b l p r e s row' to' row'' to''
       → Along b l p s row to row'' to'' (wrapped_run p e)
   along-on k {e} t =
@@ -70,6 +66,3 @@ module _ {b : Bool} {l : Layout} {p : Pace} {s row to row' to' : List ℕ} {r : 
 
       all : e.index.0 ≡ e.index.0 - 0
       all = omega arith
-
-  pub along-end : l.size ≤ r.index.0 → to' ≡ copied_on b l 0 l.size s to
-  along-end k = a.words ∙ ap (λ (m : ℕ). copied_on b l 0 m s to) (omega (arith, a.reached))

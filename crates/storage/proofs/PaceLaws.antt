@@ -215,11 +215,3 @@ module _ (l : Layout) (z : Sized l) (p : Pace) (v : Paced l p) where
 
   pub wrapped-low : (r : Run) → Stands l p r → (wrapped_run p r).processor < l.processors
   wrapped-low r w = rw v.processors (omega (arith, w.owner, mod-lt w.block z.processors-pos))
-
--- where no column changes
-pub even-next : (p : Pace) (r : Run) → p.rise ≡ 0 → r.column < p.limit + p.rise
-    → next_run p r 1 ≡ record { index = record { 0 = r.index.0 + 1 }; length = p.many; column = r.column; processor = r.processor + p.many_on }
-even-next p r e h =
-    let low : r.column < p.limit = omega arith in
-    let stays : r.column + p.rise ≡ r.column = omega arith in
-    rw (lt-ltb r.column p.limit low, stays, lt-ltb r.column p.limit low)

@@ -1,6 +1,6 @@
 -- Words copied between the storage and index order: of a cyclic template run by run, of a GEN_BLOCK one all at once. Definitions
 -- only.
-use Rattle.std.specs.Prelude.{ℕ, ◌+◌, ◌-◌, ◌≤◌, ◌<◌, ◌≡◌, Bool, cond, List, ltb, length, get_or, drop}
+use Rattle.std.specs.Prelude.{ℕ, ◌+◌, ◌-◌, ◌≤◌, ◌<◌, ◌≡◌, Bool, cond, eqb, min, List, length, get_or, drop}
 use Rattle.model.specs.declared.Dealing.{Dealing}
 use Rattle.model.specs.declared.Dealing.TheVariants.{Cyclic, GenBlock}
 use Rattle.model.specs.declared.Layout.{Layout}
@@ -33,9 +33,6 @@ pub record StartsIn (l : Layout) (m : ℕ) (row row' : List ℕ) : Type 0 where
 abbrev pub copied_run : ℕ → ℕ → ℕ → List ℕ → List ℕ → List ℕ
 copied_run at start n s l = copied (λ j. at + j) (λ j. start + j) n s l
 
-abbrev pub least_of : ℕ → ℕ → ℕ
-least_of a b = cond (ltb a b) a b
-
 -- the place that is read and the one that is written of an element, which is the y-th of the storage: loading writes the storage
 abbrev pub from_place : Bool → ℕ → ℕ → ℕ
 from_place loading i y = cond loading i y
@@ -67,6 +64,10 @@ copied_by loading l (Cyclic k) s to = copied_on loading l 0 l.size s to
 copied_by loading l GenBlock s to = copied_run 0 0 l.size s to
 
 -- ---- some runs
+
+-- how many elements of a run are taken: as far as the array goes, and one where the longest run has one
+abbrev pub taken_of : ℕ → Layout → Run → ℕ
+taken_of longest l r = cond (eqb longest 1) 1 (min r.length (l.size - r.index.0))
 
 -- all is done below the run's index, and lists have room
 pub record Ready (l : Layout) (p : Pace) (r : Run) (row s to : List ℕ) : Type 0 where

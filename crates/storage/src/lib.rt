@@ -13,22 +13,13 @@ ghost use Rattle.model.specs.Sized.{Sized};
 ghost use Rattle.storage.specs.Copying.{copied_on, copied_by, Roomy};
 ghost use Rattle.storage.specs.Answers.{copied_as, copied_refusals, written, copied_in, written_in};
 
-use mapping::questions::{Mapped, ask_mapping, list_fits, refusal_of};
-use model::{Dealing, Layout, MOST_PROCESSORS, Mapping};
+use mapping::questions::{ask_mapping, list_fits};
+use model::{Dealing, Layout, ListError, MOST_PROCESSORS, Mapping};
 
 mod laps;
 mod row;
 mod runs;
 mod words;
-
-// All words were copied; or a list is too short for so many; or the number of another question that
-// was answered no.
-#[derive(Clone, Copy)]
-pub enum Copied {
-    Whole,
-    Needs(u64),
-    Refused(u32),
-}
 
 // The words of a cyclic template's array, run by run, with each processor's at its pointer.
 fn copy_cyclic(loading: bool, l: Layout, from: &[u64], to: &mut [u64])
@@ -54,7 +45,13 @@ fn copy_dealt(loading: bool, l: Layout, d: Dealing, from: &[u64], to: &mut [u64]
 }
 
 // Question 13, and the copy, of an accepted layout. Nothing is written before both lists are asked.
-fn copy_in(loading: bool, l: Layout, d: Dealing, from: &[u64], to: &mut [u64]) -> Copied
+fn copy_in(
+    loading: bool,
+    l: Layout,
+    d: Dealing,
+    from: &[u64],
+    to: &mut [u64],
+) -> Result<(), ListError>
     requires { Sized l }
     ensures value { result ≡ copied_in l from.now to.old }
     ensures to_after { to.new ≡ written_in loading l d from.now to.old }
@@ -62,32 +59,34 @@ fn copy_in(loading: bool, l: Layout, d: Dealing, from: &[u64], to: &mut [u64]) -
 {
     let n = l.size as usize;
     if from.len() < n {
-        return Copied::Needs(l.size);
+        return Err(ListError::Needs(l.size));
     }
     if to.len() < n {
-        return Copied::Needs(l.size);
+        return Err(ListError::Needs(l.size));
     }
     copy_dealt(loading, l, d, from, to);
-    Copied::Whole
+    Ok(())
 }
 
 // Load, or save. Once the sizes are asked about, no word's place depends on them.
-fn copy_by(m: Mapping, sizes: &[u8], loading: bool, from: &[u64], to: &mut [u64]) -> Copied
+fn copy_by(
+    m: Mapping,
+    sizes: &[u8],
+    loading: bool,
+    from: &[u64],
+    to: &mut [u64],
+) -> Result<(), ListError>
     ensures result_value { copied_as result ≡ copying (copy_of (mapping_with m sizes.now) from.now to.old) }
     ensures to_after { to.new ≡ written loading (copy_of (mapping_with m sizes.now) from.now to.old) }
     ensures told_apart { ToldApart (copied_refusals result) }
 {
     let listed = list_fits(m, sizes);
-    let asked = ask_mapping(m, sizes, listed);
-    let Mapped::By(l, _) = asked else {
-        return Copied::Refused(refusal_of(asked));
-    };
-    let d = m.dealing;
-    copy_in(loading, l, d, from, to)
+    let x = ask_mapping(m, sizes, listed)?;
+    copy_in(loading, x.layout, m.dealing, from, to)
 }
 
 // Writes the words in index order, from the processors' storage.
-pub fn save(m: Mapping, sizes: &[u8], storage: &[u64], words: &mut [u64]) -> Copied
+pub fn save(m: Mapping, sizes: &[u8], storage: &[u64], words: &mut [u64]) -> Result<(), ListError>
     ensures result_value { copied_as result ≡ copying (copy_of (mapping_with m sizes.now) storage.now words.old) }
     ensures words_after { words.new ≡ saved (copy_of (mapping_with m sizes.now) storage.now words.old) }
     ensures storage_value { storage.exit.now ≡ storage.entry.now }
@@ -97,7 +96,7 @@ pub fn save(m: Mapping, sizes: &[u8], storage: &[u64], words: &mut [u64]) -> Cop
 }
 
 // Writes the processors' storage, from the words in index order.
-pub fn load(m: Mapping, sizes: &[u8], words: &[u64], storage: &mut [u64]) -> Copied
+pub fn load(m: Mapping, sizes: &[u8], words: &[u64], storage: &mut [u64]) -> Result<(), ListError>
     ensures result_value { copied_as result ≡ copying (copy_of (mapping_with m sizes.now) words.now storage.old) }
     ensures storage_after { storage.new ≡ loaded (copy_of (mapping_with m sizes.now) words.now storage.old) }
     ensures words_value { words.exit.now ≡ words.entry.now }

@@ -14,12 +14,10 @@ pub fn set_starts(l: Layout, row: &mut [u32])
     requires processors_in_bounds { l.processors ≤ length row.old }
     ensures { StartsIn l l.processors row.old row.new }
 {
-    let processors = l.processors as usize;
-    let mut q: usize = 0;
     let mut start: usize = 0;
-    while q < processors {
-        row[q] = start as u32;
-        start += held_below(l, q as u64, Index(l.size)) as usize;
-        q += 1;
+    // Not `iter_mut`: after it a proof knows the row's length and no pointer.
+    for q in 0..l.processors {
+        row[q as usize] = start as u32;
+        start += held_below(l, q, Index(l.size)) as usize;
     }
 }

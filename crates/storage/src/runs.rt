@@ -3,7 +3,7 @@
 // block's elements begin moves by one of two numbers, so that nothing is divided on the way.
 ghost use Rattle.std.specs.Prelude.{◌≡◌, ◌<◌};
 ghost use Rattle.model.specs.Sized.{Sized};
-ghost use Rattle.storage.specs.Pacing.{short_pace, long_pace, pace_of, length_at, first_run, next_run, wrapped_run, Paced, Within};
+ghost use Rattle.storage.specs.Pacing.{short_pace, long_pace, pace_of, length_at, run_at, first_run, next_run, wrapped_run, Paced, Within};
 
 use mapping::dealing::owner_of;
 use model::{Cell, Index, Layout};
@@ -53,7 +53,7 @@ fn short_pace(l: Layout) -> Pace
 }
 
 // A stride of a block or more: each element is alone in its block, and the next one's is a / k blocks
-// on or one more.
+// on or one more. Not one with short_pace: no field but the last has the same formula.
 fn long_pace(l: Layout) -> Pace
     requires { Sized l }
     ensures { result ≡ long_pace l }
@@ -83,86 +83,76 @@ pub fn pace_of(l: Layout) -> Pace
     long_pace(l)
 }
 
-// How many elements a block has, if the first of them sits at this column.
-fn length_at(p: Pace, column: usize) -> usize
-    ensures { result ≡ length_at p column }
-{
-    if column < p.limit {
-        return p.many;
+impl Pace {
+    // How many elements a block has, if the first of them sits at this column.
+    fn length_at(self, column: usize) -> usize
+        ensures { result ≡ length_at self column }
+    {
+        if column < self.limit {
+            return self.many;
+        }
+        self.few
     }
-    p.few
-}
 
-// The array's first run. Its block may have room for elements before the first, which are left out.
-pub fn first_run(l: Layout, p: Pace) -> Run
-    requires sized { Sized l }
-    requires paced { Paced l p }
-    ensures { result ≡ first_run l p }
-{
-    let column = l.offset % l.block;
-    let begin = (column % l.stride) as usize;
-    Run {
-        index: Index(0),
-        length: length_at(p, begin) - (column / l.stride) as usize,
-        column: begin,
-        processor: owner_of(l, Cell(l.offset)) as usize,
-    }
-}
-
-// The run after one of which so many elements were taken.
-pub fn next_run(p: Pace, r: Run, taken: usize) -> Run
-    requires { Within p r taken }
-    ensures { result ≡ next_run p r taken }
-{
-    let index = Index(r.index.0 + taken as u64);
-    if r.column < p.limit {
-        let column = r.column + p.rise;
-        return Run {
+    // The run from an index on, in a block whose elements begin at this column.
+    fn run_at(self, index: Index, column: usize, processor: usize) -> Run
+        ensures { result ≡ run_at self index.0 column processor }
+    {
+        Run {
             index,
-            length: length_at(p, column),
+            length: self.length_at(column),
             column,
-            processor: r.processor + p.many_on,
-        };
+            processor,
+        }
     }
-    let column = r.column - p.limit;
-    Run {
-        index,
-        length: length_at(p, column),
-        column,
-        processor: r.processor + p.few_on,
-    }
-}
 
-// The run after one of a single word. Where the stride is a multiple of the block no column changes.
-pub fn next_word(p: Pace, r: Run) -> Run
-    requires { Within p r 1 }
-    ensures { result ≡ next_run p r 1 }
-{
-    if p.rise == 0 {
-        return Run {
-            index: Index(r.index.0 + 1),
-            length: p.many,
-            column: r.column,
-            processor: r.processor + p.many_on,
-        };
+    // The array's first run. Its block may have room for elements before the first, which are left
+    // out.
+    pub fn first_run(self, l: Layout) -> Run
+        requires sized { Sized l }
+        requires paced { Paced l self }
+        ensures { result ≡ first_run l self }
+    {
+        let column = l.offset % l.block;
+        let owner = owner_of(l, Cell(l.offset));
+        let r = self.run_at(Index(0), (column % l.stride) as usize, owner as usize);
+        Run {
+            length: r.length - (column / l.stride) as usize,
+            ..r
+        }
     }
-    next_run(p, r, 1)
-}
 
-// Its owner among the processors that there are.
-pub fn wrapped_run(p: Pace, r: Run) -> Run
-    ensures { result ≡ wrapped_run p r }
-{
-    let index = r.index;
-    let processor = if r.processor < p.processors {
-        r.processor
-    } else {
-        r.processor - p.processors
-    };
-    Run {
-        index,
-        length: r.length,
-        column: r.column,
-        processor,
+    // The run after one of which so many elements were taken. Where the stride is a multiple of the
+    // block no column changes: asked first, since the compiler then makes a loop of its own of it.
+    pub fn next_run(self, r: Run, taken: usize) -> Run
+        requires { Within self r taken }
+        ensures { result ≡ next_run self r taken }
+    {
+        let index = Index(r.index.0 + taken as u64);
+        if self.rise == 0 {
+            return Run {
+                index,
+                length: self.many,
+                processor: r.processor + self.many_on,
+                ..r
+            };
+        }
+        if r.column < self.limit {
+            return self.run_at(index, r.column + self.rise, r.processor + self.many_on);
+        }
+        self.run_at(index, r.column - self.limit, r.processor + self.few_on)
+    }
+
+    // A run's owner among the processors that there are.
+    pub fn wrapped_run(self, r: Run) -> Run
+        ensures { result ≡ wrapped_run self r }
+    {
+        if r.processor < self.processors {
+            return r;
+        }
+        Run {
+            processor: r.processor - self.processors,
+            ..r
+        }
     }
 }

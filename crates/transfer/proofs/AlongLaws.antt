@@ -1,16 +1,19 @@
 -- A walk along a share of a pair: where it stands, what lies ahead, and what a turn finds.
 use Prim.Native.Nat.{ℕ, ◌-◌, ◌≤◌, ◌<◌}
-use mathlib.Core.Path.{◌≡◌, ◌∙◌}
+use mathlib.Core.Path.{◌≡◌, ap, ◌∙◌}
 use mathlib.Core.Bool.{Bool, true, false}
 use mathlib.Core.List.{List, [], ◌∷◌}
 use native.Mathlib.Omega.{arith}
-use lib.ListN.{length}
+use lib.ListN.{length, get_or}
 use Rattle.numbers.specs.Search.{passing}
-use Rattle.numbers.proofs.SearchLaws.{passing-none, tally-le}
+use Rattle.numbers.proofs.SearchLaws.{passing-none, tally-le, listed}
 use Rattle.model.proofs.TransferLaws.{passing-count}
 use Rattle.section.specs.declared.shares.Share.{Share}
 use Rattle.section.specs.Shares.{owned_by, place_by, next_by, Shared}
+use Rattle.transfer.specs.declared.walk.Places.{Places}
 use Rattle.transfer.specs.Pairs.{Meets, places}
+use Rattle.transfer.specs.Walks as standing
+use Rattle.transfer.specs.Walks.{Standing}
 use Rattle.transfer.proofs.TestedWalk as walks
 use Rattle.transfer.proofs.PairLaws.{known, fitted}
 
@@ -79,3 +82,11 @@ module _ (a b : Share) where
           hit = walks.found _ _ N t u h next p;
           miss = walks.missed _ _ N t u h next;
         }
+
+-- the next position fits 32 bits
+pub next-low : (p : Places) → Standing p → {t : ℕ} {ts : List ℕ} → standing.ahead p ≡ t ∷ ts → t ≤ 2147483647
+next-low p s e =
+    let n = p.walk.walked.section.count in
+    let both = walks.both (owned_by p.walk.walked) (owned_by p.walk.tested) n in
+    let first = listed both (n - p.at.0) p.at.0 0 (omega (arith, ap length e)) in
+    omega (arith, first.below, ap (λ (l : List ℕ). get_or l 0 0) e, s.inside, count-high _ _ s.meets)

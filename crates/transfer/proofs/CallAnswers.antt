@@ -1,12 +1,16 @@
 -- What `transfers` answers and leaves in the lists, from the answer to the questions of the pair.
-use Prim.Native.Nat.{ℕ, ◌<◌}
+use Prim.Native.Nat.{ℕ}
 use mathlib.Core.Path.{◌≡◌, refl, sym, ap, ◌∙◌}
 use mathlib.Core.Bool.{Bool, true, false, cond}
-use native.Mathlib.Nat.{pos_of_ne-zero}
 use native.Mathlib.Omega.{arith}
 use borrow.Author.Tests.{ne_eqb}
 use lib.IntN.{ℤ}
 use lib.ListN.{length}
+use Rattle.std.specs.Prelude.{Result, Ok, Err, IsErrAnd}
+use Rattle.std.proofs.lemmas.Result.{err_from_is_err_and}
+use Rattle.model.specs.declared.refusals.Refusal.{Refusal}
+use Rattle.model.specs.declared.refusals.ListError.{ListError}
+use Rattle.model.specs.declared.refusals.ListError.TheVariants.{Needs, Refused}
 use Rattle.model.specs.Mappings.{Section}
 use Rattle.model.specs.Ownership.{nat}
 use Rattle.model.specs.Sections.{address}
@@ -14,19 +18,21 @@ use Rattle.model.specs.Questions.{first_no}
 use Rattle.model.specs.Calls.{ToldApart}
 use Rattle.model.specs.Transfers.{Lists, TransferCall, pair_places, places_of, of_pair, of_room, of_transfer, entries_of, transfers, with_entries, lists_after}
 use Rattle.model.proofs.QuestionLaws.{all_yes, asks-on, stops, never}
-use Rattle.transfer.specs.declared.listing.Transferred.TheVariants.{Entries, Needs}
 use Rattle.transfer.specs.declared.questions.Pair.{Pair}
-use Rattle.transfer.specs.declared.questions.Paired.TheVariants.{By, Refused}
 use Rattle.transfer.specs.Pairs.{pair_of, pair_asked}
 use Rattle.transfer.specs.Answers.{call_of, transferred_as, transferred_refusals, rising, has_room, listed_in, rising_lists, lists_in}
 use Rattle.transfer.proofs.PairAnswers.{Passed, pair-passed, pair-stopped}
 use Rattle.transfer.proofs.PairLists.{same-places, same_lists}
 
+-- what `?` returns, from what its conversion ensures of the refusal
+pub turned : {A : Type 0} (r : Result A ListError) (e : Refusal) → IsErrAnd r (λ f. f ≡ Refused e) → r ≡ Err (Refused e)
+turned r e h = let p = err_from_is_err_and r h in p.1 ∙ ap Err p.2
+
 -- an accepted pair holds no refusal's number
 pub told-by : (p : Pair) (x : Lists) → ToldApart (transferred_refusals (listed_in p x))
 told-by p x = go (has_room (length (rising p)) x)
   where
-    go : (b : Bool) → ToldApart (transferred_refusals (cond b (Entries (length (rising p))) (Needs (length (rising p)))))
+    go : (b : Bool) → ToldApart (transferred_refusals (cond b (Ok (length (rising p))) (Err (Needs (length (rising p))))))
     go true = tt
     go false = tt
 
@@ -36,7 +42,7 @@ module _ (left right : Section) (q m : ℤ) (x : Lists) where
 
   -- ---- the pair is refused
 
-  module _ (e : ℕ) (r : pair_asked left right q m ≡ Refused e) where
+  module _ (e : ℕ) (r : pair_asked left right q m ≡ Err e) where
     some : e ≡ 0 → ⊥
     some = (pair-stopped left right q m e r).1
 
@@ -58,12 +64,9 @@ module _ (left right : Section) (q m : ℤ) (x : Lists) where
     unfolding lists_after
     lists-refused = rw (first, ne_eqb e 0 some)
 
-    pub told-refused : 0 < e
-    told-refused = pos_of_ne-zero some
-
   -- ---- the pair passed
 
-  module _ (p : Pair) (r : pair_asked left right q m ≡ By p) where
+  module _ (p : Pair) (r : pair_asked left right q m ≡ Ok p) where
     passed : Passed left right q m p
     passed = pair-passed left right q m p r
 

@@ -1,22 +1,19 @@
 -- Listing an accepted pair: question 13, what the addresses ask for, and the lists in the end.
 use Prim.Native.Nat.{ℕ, ◌≤◌, ◌<◌}
-use mathlib.Core.Path.{◌≡◌, refl, sym, ap, ◌∙◌, subst}
-use mathlib.Core.Bool.{Bool, true, false, ◌&&◌, and-false}
+use mathlib.Core.Path.{◌≡◌, sym, ap, ◌∙◌, subst}
+use mathlib.Core.Bool.{Bool, true, ◌&&◌}
 use mathlib.Core.List.{List, map}
-use mathlib.Core.Logic.{◌⊎◌, inl, inr}
 use native.Mathlib.Omega.{arith}
-use borrow.Author.Tests.{le-leb, lt-leb}
-use lib.Dec.{leb}
+use borrow.Author.Tests.{le-leb}
 use lib.ListN.{length, get_or, take}
 use Rattle.numbers.proofs.Tests.{both_true}
 use Rattle.numbers.proofs.SearchLaws.{Nth, listed}
 use Rattle.model.specs.Transfers.{Lists, fronted}
 use Rattle.section.specs.Shares.{owned_by, address_by}
 use Rattle.transfer.specs.declared.questions.Pair.{Pair}
-use Rattle.transfer.specs.declared.listing.Transferred.TheVariants.{Entries, Needs}
 use Rattle.transfer.specs.Pairs.{Fit, places}
 use Rattle.transfer.specs.Walks.{Addressable}
-use Rattle.transfer.specs.Answers.{lists_of, rising, has_room, listed_in, lists_in}
+use Rattle.transfer.specs.Answers.{lists_of, rising, has_room, lists_in}
 use Rattle.transfer.proofs.FrontLaws.{front_at, front-take, front_length}
 
 -- ---- question 13
@@ -24,19 +21,9 @@ use Rattle.transfer.proofs.FrontLaws.{front_at, front-take, front_length}
 pub room-yes : (n : ℕ) (x : Lists) → n ≤ length x.positions → n ≤ length x.sent → n ≤ length x.received → has_room n x ≡ true
 room-yes n x a b c = rw (le-leb n (length x.positions) a, le-leb n (length x.sent) b, le-leb n (length x.received) c)
 
--- one list is too short
-pub room-no : (n : ℕ) (x : Lists) → (length x.positions < n) ⊎ ((length x.sent < n) ⊎ (length x.received < n)) → has_room n x ≡ false
-room-no n x (inl h) = rw (lt-leb n (length x.positions) h)
-room-no n x (inr (inl h)) = rw (lt-leb n (length x.sent) h, and-false (leb n (length x.positions)))
-room-no n x (inr (inr h)) =
-    rw (lt-leb n (length x.received) h, and-false (leb n (length x.positions) && leb n (length x.sent)))
-
 -- ---- a pair
 
 module _ (p : Pair) {n : ℕ} (e : n ≡ length (rising p)) (x : Lists) where
-  pub too_short : has_room n x ≡ false → (Needs n ≡ listed_in p x) × (x ≡ lists_in p x)
-  too_short h = let r : has_room (length (rising p)) x ≡ false = rw (← e) h in (rw r (ap Needs e), rw r refl)
-
   module _ (after : List ℕ) (w : after ≡ fronted (rising p) x.positions) where
     written : take n after ≡ rising p
     written = rw (w, e) (front-take (rising p) x.positions)
@@ -68,9 +55,9 @@ module _ (p : Pair) {n : ℕ} (e : n ≡ length (rising p)) (x : Lists) where
     pub all_listed : (sent received : List ℕ)
         → sent ≡ fronted (map (address_by p.sender) (take n after)) x.sent
         → received ≡ fronted (map (address_by p.receiver) (take n after)) x.received
-        → has_room n x ≡ true → (Entries n ≡ listed_in p x) × (lists_of after sent received ≡ lists_in p x)
+        → has_room n x ≡ true → lists_of after sent received ≡ lists_in p x
     all_listed sent received s r h =
         let room : has_room (length (rising p)) x ≡ true = rw (← e) h in
         let sent_is = s ∙ ap (λ (ts : List ℕ). fronted (map (address_by p.sender) ts) x.sent) written in
         let received_is = r ∙ ap (λ (ts : List ℕ). fronted (map (address_by p.receiver) ts) x.received) written in
-        (rw room (ap Entries e), rw room (λ i. lists_of (w i) (sent_is i) (received_is i)))
+        rw room (λ i. lists_of (w i) (sent_is i) (received_is i))

@@ -7,6 +7,7 @@ use native.Mathlib.Omega.{arith}
 use borrow.Author.Tests.{eqb-true, eqb-false, ne_eqb}
 use lib.Dec.{eqb}
 use lib.IntN.{ℤ}
+use Rattle.std.specs.Prelude.{Ok, Err}
 use Rattle.model.specs.Mappings.{Section}
 use Rattle.model.specs.Ownership.{layout_of}
 use Rattle.model.specs.Sections.{layout, count}
@@ -15,12 +16,10 @@ use Rattle.model.specs.Transfers.{of_counts, of_pair}
 use Rattle.model.proofs.QuestionLaws.{all_yes, asks-on, both_yes, stops, below-is}
 use Rattle.model.proofs.AcceptedLaws.{mapping-yes, whole-mapping}
 use Rattle.section.specs.declared.questions.Strided.{Strided}
-use Rattle.section.specs.declared.questions.Asked.TheVariants as asked
 use Rattle.section.specs.Strides.{strided_of}
 use Rattle.section.specs.Answers.{asked_of}
 use Rattle.section.proofs.CallAnswers.{passed, stopped}
 use Rattle.transfer.specs.declared.questions.Pair.{Pair}
-use Rattle.transfer.specs.declared.questions.Paired.TheVariants.{By, Refused}
 use Rattle.transfer.specs.Pairs.{of_ends, pair_of, pair_asked, Fit}
 
 module _ (left right : Section) (q m : ℤ) where
@@ -29,33 +28,33 @@ module _ (left right : Section) (q m : ℤ) where
   ends = of_processor right.mapping q ++ of_processor left.mapping m ++ of_counts (count left) (count right)
 
   -- e is the first no
-  pub refused-by : (e : ℕ) → (e ≡ 0 → ⊥) → e ≡ first_no (of_pair left right q m) → Refused e ≡ pair_asked left right q m
+  pub refused-by : (e : ℕ) → (e ≡ 0 → ⊥) → e ≡ first_no (of_pair left right q m) → Err e ≡ pair_asked left right q m
   unfolding pair_asked
   refused-by e some f = rw (← f, ne_eqb e 0 some)
 
   -- there is none
-  pub paired : first_no (of_pair left right q m) ≡ 0 → By (pair_of left right q m) ≡ pair_asked left right q m
+  pub paired : first_no (of_pair left right q m) ≡ 0 → Ok (pair_of left right q m) ≡ pair_asked left right q m
   unfolding pair_asked
   paired f = rw f
 
   -- the left is refused
-  pub left-refused : (e : ℕ) → asked_of left ≡ asked.Refused e → Refused e ≡ pair_asked left right q m
+  pub left-refused : (e : ℕ) → asked_of left ≡ Err e → Err e ≡ pair_asked left right q m
   left-refused e r =
       let s = stopped left e r in
       refused-by e s.some (sym (stops (of_section left) (of_section right ++ ends) (λ z. s.some (sym s.first ∙ z)) ∙ s.first))
 
-  module _ (x : Strided) (l : asked_of left ≡ asked.By x) where
+  module _ (x : Strided) (l : asked_of left ≡ Ok x) where
     after-left : first_no (of_pair left right q m) ≡ first_no (of_section right ++ ends)
     after-left = asks-on (of_section left) (of_section right ++ ends) (all_yes (of_section left) refl (passed left x l).none)
 
     -- the right is refused
-    pub right-refused : (e : ℕ) → asked_of right ≡ asked.Refused e → Refused e ≡ pair_asked left right q m
+    pub right-refused : (e : ℕ) → asked_of right ≡ Err e → Err e ≡ pair_asked left right q m
     right-refused e r =
         let s = stopped right e r in
         refused-by e s.some (sym (after-left ∙ stops (of_section right) ends (λ z. s.some (sym s.first ∙ z)) ∙ s.first))
 
     -- both pass: the numbers of processors are the layouts'
-    pub both-accepted : (y : Strided) → asked_of right ≡ asked.By y → first_no (of_ends x y q m) ≡ first_no (of_pair left right q m)
+    pub both-accepted : (y : Strided) → asked_of right ≡ Ok y → first_no (of_ends x y q m) ≡ first_no (of_pair left right q m)
     unfolding strided_of layout
     both-accepted y r =
         let a = passed left x l in
@@ -99,7 +98,7 @@ module _ (left right : Section) (q m : ℤ) where
           counts = same_count;
         }
 
-  module _ (p : Pair) (e : pair_asked left right q m ≡ By p) where
+  module _ (p : Pair) (e : pair_asked left right q m ≡ Ok p) where
     pub pair-passed : Passed left right q m p
     unfolding pair_asked
     pair-passed = go (eqb (first_no (of_pair left right q m)) 0) refl
@@ -114,7 +113,7 @@ module _ (left right : Section) (q m : ℤ) where
     pair_fits = subst Fit (sym pair-passed.pair) (fits pair-passed.none)
 
   -- one of them is
-  pub pair-stopped : (e : ℕ) → pair_asked left right q m ≡ Refused e → (first_no (of_pair left right q m) ≡ e) × (e ≡ 0 → ⊥)
+  pub pair-stopped : (e : ℕ) → pair_asked left right q m ≡ Err e → (first_no (of_pair left right q m) ≡ e) × (e ≡ 0 → ⊥)
   unfolding pair_asked
   pair-stopped e r = go (eqb (first_no (of_pair left right q m)) 0) refl
     where

@@ -1,22 +1,14 @@
 -- A pair of shares: what its questions answer, and its positions. Definitions only.
-use Rattle.std.specs.Prelude.{ℕ, ◌≡◌, cond, ◌&&◌, List, ◌∷◌, eqb, ℤ, pos}
+use Rattle.std.specs.Prelude.{ℕ, ◌≡◌, cond, ◌&&◌, List, ◌∷◌, eqb, ℤ, pos, Result, Ok, Err}
 use Rattle.numbers.specs.Search.{passing}
 use Rattle.model.specs.Mappings.{Section}
 use Rattle.model.specs.Ownership.{nat}
 use Rattle.model.specs.Questions.{Question, ask, first_no, is_below}
 use Rattle.model.specs.Transfers.{of_counts, of_pair}
 use Rattle.section.specs.declared.questions.Strided.{Strided}
-use Rattle.section.specs.declared.questions.Asked.{Asked}
-use Rattle.section.specs.declared.questions.Asked.TheVariants as asked
 use Rattle.section.specs.declared.shares.Share.{Share}
 use Rattle.section.specs.Shares.{share_of, owned_by, Accepted}
 use Rattle.transfer.specs.declared.questions.Pair.{Pair}
-use Rattle.transfer.specs.declared.questions.Paired.{Paired}
-use Rattle.transfer.specs.declared.questions.Paired.TheVariants.{By, Refused}
-
-abbrev pub refusal_in : Asked → ℕ
-refusal_in (asked.By w) = 0
-refusal_in (asked.Refused q) = q
 
 -- 8 for the sender, 8 for the receiver, and 12, of accepted sections
 abbrev pub of_ends : Strided → Strided → ℤ → ℤ → List Question
@@ -29,10 +21,10 @@ abbrev pub pair_of : Section → Section → ℤ → ℤ → Pair
 pair_of left right q m = record { sender = share_of right (nat q); receiver = share_of left (nat m) }
 
 -- the pair if its questions, of which e is the first that is answered no, passed
-unfoldable pub pair_asked : Section → Section → ℤ → ℤ → Paired
+unfoldable pub pair_asked : Section → Section → ℤ → ℤ → Result Pair ℕ
 pair_asked left right q m =
     let e = first_no (of_pair left right q m) in
-    cond (eqb e 0) (By (pair_of left right q m)) (Refused e)
+    cond (eqb e 0) (Ok (pair_of left right q m)) (Err e)
 
 -- ---- what is known of a pair that passed
 

@@ -9,17 +9,17 @@ ghost use Rattle.model.specs.Calls.{ToldApart};
 ghost use Rattle.model.specs.Transfers.{transfers, lists_after};
 ghost use Rattle.transfer.specs.Answers.{call_of, transferred_as, transferred_refusals, lists_of};
 
-use listing::{Transferred, list_pair};
-use model::Section;
-use questions::{Paired, ask_pair};
+use listing::list_pair;
+use model::{ListError, Section};
+use questions::ask_pair;
 
-pub mod listing;
+mod listing;
 mod questions;
 mod walk;
 
-// The entries of the pair in rising section position: positions, sender's addresses and
-// receiver's addresses in three lists. Each side's sizes are those of its template, if that is a
-// GEN_BLOCK one.
+// How many entries the pair has; they are written in rising section position: positions, sender's
+// addresses and receiver's addresses in three lists. Each side's sizes are those of its template,
+// if that is a GEN_BLOCK one.
 pub fn transfers(
     left: Section,
     left_sizes: &[u8],
@@ -30,7 +30,7 @@ pub fn transfers(
     positions: &mut [u32],
     sent: &mut [u32],
     received: &mut [u32],
-) -> Transferred
+) -> Result<usize, ListError>
     ensures result_value { transferred_as result
         ≡ transfers (call_of (section_with left left_sizes.now) (section_with right right_sizes.now) sender receiver
         (lists_of positions.old sent.old received.old)) }
@@ -39,8 +39,6 @@ pub fn transfers(
         (lists_of positions.old sent.old received.old)) }
     ensures told_apart { ToldApart (transferred_refusals result) }
 {
-    match ask_pair(left, left_sizes, right, right_sizes, sender, receiver) {
-        Paired::By(p) => list_pair(p, positions, sent, received),
-        Paired::Refused(q) => Transferred::Refused(q),
-    }
+    let p = ask_pair(left, left_sizes, right, right_sizes, sender, receiver)?;
+    list_pair(p, positions, sent, received)
 }

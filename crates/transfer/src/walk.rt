@@ -1,9 +1,9 @@
 // The positions of a pair, found on a walk: along the elements of the processor that has
 // fewer of the section, with a test at each whether the other owns it too.
-ghost use Rattle.std.specs.Prelude.{◌≡◌, ◌≤◌, length};
-ghost use Rattle.model.specs.Transfers.{fronted};
+ghost use Rattle.std.specs.Prelude.{◌≡◌};
+ghost use Rattle.std.specs.Iterator.{YieldsFirstBy, item_count};
 ghost use Rattle.transfer.specs.Pairs.{Meets, Fit, places};
-ghost use Rattle.transfer.specs.Walks.{Along};
+ghost use Rattle.transfer.specs.Walks.{Along, Standing, ahead};
 
 use crate::questions::Pair;
 use model::{Position, Steps};
@@ -46,44 +46,50 @@ pub fn walk_of(p: Pair) -> Walk
     walk_by(r, s)
 }
 
-// How many positions there are.
-pub fn count_along(w: Walk) -> usize
-    requires { Along w }
-    ensures { result ≡ length (places w.walked w.tested) }
-{
-    let walked = w.walked;
-    let tested = w.tested;
-    let steps = w.steps;
-    let count = walked.section.count;
-    let mut t = w.first;
-    let mut n: usize = 0;
-    while t.0 < count {
-        let here = t;
-        t = next_of(walked, steps, here);
-        if owns_at(tested, here) {
-            n += 1;
-        }
-    }
-    n
+// The positions that are still ahead of a walk, in rising order.
+#[derive(Clone, Copy)]
+pub struct Places {
+    pub walk: Walk,
+    pub at: Position,
 }
 
-// The positions, at the front of a list.
-pub fn write_along(w: Walk, list: &mut [u32])
-    requires { Along w × (length (places w.walked w.tested) ≤ length list.old) }
-    ensures { list.new ≡ fronted (places w.walked w.tested) list.old }
+// All positions of a walk.
+pub fn places_of(w: Walk) -> Places
+    requires { Along w }
+    ensures { Standing result × (ahead result ≡ places w.walked w.tested) }
 {
-    let walked = w.walked;
-    let tested = w.tested;
-    let steps = w.steps;
-    let count = walked.section.count;
-    let mut t = w.first;
-    let mut at: usize = 0;
-    while t.0 < count {
-        let here = t;
-        t = next_of(walked, steps, here);
-        if owns_at(tested, here) {
-            list[at] = here.0 as u32;
-            at += 1;
+    Places {
+        walk: w,
+        at: w.first,
+    }
+}
+
+impl Iterator for Places {
+    type Item = Position;
+
+    ghost can_next = { Standing };
+
+    ghost next_gives = { YieldsFirstBy (λ t. t.0) ahead };
+
+    ghost remaining = { item_count ahead };
+
+    // Called, it would read the walk from memory at each entry.
+    #[inline(always)]
+    fn next(&mut self) -> Option<Position> {
+        let Walk {
+            walked,
+            tested,
+            steps,
+            ..
+        } = self.walk;
+        // Not a `for`: the walk goes on by its own steps.
+        while self.at.0 < walked.section.count {
+            let here = self.at;
+            self.at = next_of(walked, steps, here);
+            if owns_at(tested, here) {
+                return Some(here);
+            }
         }
+        None
     }
 }

@@ -3,12 +3,14 @@ use Prim.Native.Nat.{ℕ, zero, suc, ◌+◌, ◌-◌, ◌*◌, ◌/◌, ◌≤�
 use mathlib.Core.Path.{◌≡◌, refl, sym, ap, ◌∙◌, subst}
 use mathlib.Core.List.{List}
 use mathlib.Core.Logic.{◌⊎◌, ⊎_elim}
-use native.Mathlib.Nat.{add-zero, mul-le-mul_right, mod-lt, div-le_self, div-add-mod'}
+use native.Mathlib.Nat.{add-zero, mul-le-mul_right, mod-lt, div-le_self}
 use native.Mathlib.Decide.{dec_lt}
 use native.Mathlib.Numerals.{add-one}
 use native.Mathlib.Omega.{arith}
 use lib.ListN.{length, set, length-set}
+use Rattle.numbers.proofs.WordLaws.{store_length}
 use Rattle.model.specs.Filling.{Walk, Filled}
+use Rattle.model.specs.ByteFills.{store_entry}
 use Rattle.walk.specs.declared.moves.Moves.{Moves}
 use Rattle.walk.specs.declared.moves.State.{State}
 use Rattle.walk.specs.declared.moves.Made.{Made}
@@ -51,22 +53,24 @@ unfolding steps_on
 some_turn m δ P s₀ s zero e h g = absurd (g (subst P (sym e) h))
 some_turn m δ P s₀ s (suc i) e h g = omega arith
 
--- ---- what the loop of a burst keeps, however an address is put into the list
+-- ---- what the loop of a burst keeps
 
-pub record Bursting (put : List ℕ → ℕ → ℕ → List ℕ) (m : Moves) (δ : ℕ → ℕ) (P : State → Type 0) (l₀ : List ℕ) (from turns : ℕ) (s₀ : State) (l : List ℕ) (s : State) (i : ℕ) : Type 0 where
+pub entry_length : (bs : List ℕ) (n a : ℕ) → length (store_entry bs n a) ≡ length bs
+entry_length bs n a = store_length 4 _ a bs
+
+pub record Bursting (m : Moves) (δ : ℕ → ℕ) (P : State → Type 0) (l₀ : List ℕ) (from turns : ℕ) (s₀ : State) (l : List ℕ) (s : State) (i : ℕ) : Type 0 where
   pub low : i ≤ turns
   pub same : length l ≡ length l₀
   pub each : (j : ℕ) → j < i → P (steps_on m δ j s₀)
   pub state : s ≡ steps_on m δ i s₀
-  pub list : l ≡ burst_by put m δ l₀ from i s₀
+  pub list : l ≡ burst_by store_entry m δ l₀ from i s₀
 
-module _ (put : List ℕ → ℕ → ℕ → List ℕ) (keeps : (l : List ℕ) (n a : ℕ) → length (put l n a) ≡ length l) (m : Moves) (δ : ℕ → ℕ) (P : State → Type 0)
-    {l₀ : List ℕ} {from turns : ℕ} {s₀ : State} where
-  pub bursting-starts : Bursting put m δ P l₀ from turns s₀ l₀ s₀ 0
+module _ {m : Moves} {δ : ℕ → ℕ} {P : State → Type 0} {l₀ : List ℕ} {from turns : ℕ} {s₀ : State} where
+  pub bursting-starts : Bursting m δ P l₀ from turns s₀ l₀ s₀ 0
   unfolding steps_on burst_by
   bursting-starts = record { low = omega arith; same = refl; each = λ j h. absurd (omega arith); state = refl; list = refl }
 
-  module _ {l : List ℕ} {s : State} {i : ℕ} (b : Bursting put m δ P l₀ from turns s₀ l s i) where
+  module _ {l : List ℕ} {s : State} {i : ℕ} (b : Bursting m δ P l₀ from turns s₀ l s i) where
     each_on : P s → (j : ℕ) → j < suc i → P (steps_on m δ j s₀)
     each_on here j h = elim (dec_lt j i) [
       | yes g ↦ b.each j g
@@ -75,18 +79,18 @@ module _ (put : List ℕ → ℕ → ℕ → List ℕ) (keeps : (l : List ℕ) (
           rw e (subst P b.state here)
     ]
 
-    pub bursting-turns : i < turns → P s → Bursting put m δ P l₀ from turns s₀ (put l (from + i) s.address.0) (stepped_by m δ s) (i + 1)
+    pub bursting-turns : i < turns → P s → Bursting m δ P l₀ from turns s₀ (store_entry l (from + i) s.address.0) (stepped_by m δ s) (i + 1)
     unfolding steps_on burst_by
     bursting-turns h here =
         rw add-one (record {
           low = h;
-          same = keeps l (from + i) s.address.0 ∙ b.same;
+          same = entry_length l (from + i) s.address.0 ∙ b.same;
           each = each_on here;
           state = ap (stepped_by m δ) b.state;
-          list = (λ j. put (b.list j) (from + i) (b.state j).address.0);
+          list = (λ j. store_entry (b.list j) (from + i) (b.state j).address.0);
         })
 
-    pub bursting-ends : P s₀ → 0 < turns → (turns ≤ i) ⊎ (P s → ⊥) → Bursted put m δ P s₀ from turns l₀ l (record { state = s; turns = i })
+    pub bursting-ends : P s₀ → 0 < turns → (turns ≤ i) ⊎ (P s → ⊥) → Bursted store_entry m δ P s₀ from turns l₀ l (record { state = s; turns = i })
     bursting-ends first pos why = record {
       some = ⊎_elim (λ h. omega arith) (λ h. some_turn m δ P s₀ s i b.state first h) why;
       low = b.low;
@@ -100,12 +104,15 @@ module _ (put : List ℕ → ℕ → ℕ → List ℕ) (keeps : (l : List ℕ) (
       pub bursting-short : Short m count s₀ turns → i < turns → s.place.0 < count
       bursting-short short h = rw b.state (short-of m a.small δ count s₀ a.sound turns i short h)
 
+      pub bursting-sound : Sound m s
+      bursting-sound = rw b.state (steps-within m a.small δ s₀ a.sound i).sound
+
       -- what a step asks
       pub bursting-steps : i < turns → s.place.0 < count → Small m × Sound m s × Roomy s
       bursting-steps h here =
           let v = steps-within m a.small δ s₀ a.sound i in
           let paid : s.paid < 4294967296 = rw b.state (omega (arith, v.paid, a.tries)) in
-          (a.small, rw b.state v.sound, record { place = omega (arith, a.few); paid = paid })
+          (a.small, bursting-sound, record { place = omega (arith, a.few); paid = paid })
 
 pub burst-length : (put : List ℕ → ℕ → ℕ → List ℕ) → ((l : List ℕ) (n a : ℕ) → length (put l n a) ≡ length l)
     → (m : Moves) (δ : ℕ → ℕ) (l : List ℕ) (from n : ℕ) (s : State) → length (burst_by put m δ l from n s) ≡ length l
@@ -130,18 +137,8 @@ module _ (w : Walk) (m : Moves) (small : Small m) (p : Paces w m) (δ : ℕ → 
       (turns w m p before long here (omega (arith, b.paid, sure.tries)) (light m _ small b.sound.column).tries
       (δ (steps_on m δ i s).column) (arrives i h before.stands))
 
--- ---- what the loop of a fill asks at each turn, and what it keeps
+-- ---- what the loop of a fill keeps
 module _ {m : Moves} {count quota : ℕ} {s₀ : State} {l₀ l : List ℕ} {s : State} {n : ℕ} (v : Starts m count quota s₀) (r : Runs m count quota s₀ l₀ l s n) where
-  pub run-asks : (s.place.0 ≡ count → ⊥) → {all : ℕ} → 0 < all → s.paid + 3 * all ≤ quota → Bursts m count s all
-  run-asks e some tries = record {
-    small = v.small;
-    sound = r.sound;
-    few = v.few;
-    place = omega (arith, r.place);
-    some = some;
-    tries = omega (arith, v.low);
-  }
-
   pub run-bursts : {all : ℕ} → Sure m (add_from m) count quota s all → n + all ≤ length l
       → Runs m count quota s₀ l₀ (burst_by set m (add_from m) l n all s) (stop_at count (steps_on m (add_from m) all s)) (n + all)
   run-bursts {all} sure room =
@@ -167,28 +164,7 @@ pub made-sure : {put : List ℕ → ℕ → ℕ → List ℕ} {m : Moves} {δ : 
     → Bursted put m δ P s from turns l l' r → ((z : State) → P z → z.place.0 < count) → s.paid + 3 * turns ≤ quota → Sure m δ count quota s r.turns
 made-sure b before h = record { places = λ i g. before _ (b.each i g); tries = omega (arith, b.low) }
 
--- fewer turns than were allowed
-pub fewer-turns : {m : Moves} {count : ℕ} {s : State} {most turns : ℕ} → Bursts m count s most → turns ≤ most → 0 < turns → Bursts m count s turns
-fewer-turns b low some = record {
-  small = b.small;
-  sound = b.sound;
-  few = b.few;
-  place = b.place;
-  some = some;
-  tries = omega (arith, b.tries);
-}
-
-pub more-allowed : {put : List ℕ → ℕ → ℕ → List ℕ} {m : Moves} {δ : ℕ → ℕ} {P : State → Type 0} {s : State} {from turns most : ℕ} {l l' : List ℕ} {r : Made}
-    → turns ≤ most → Bursted put m δ P s from turns l l' r → Bursted put m δ P s from most l l' r
-more-allowed h b = record { some = b.some; low = omega (arith, b.low); each = b.each; state = b.state; list = b.list }
-
 -- ---- how many are sure
 
 pub quotient_fits : (x f b : ℕ) → x + 1 < b → x / f + 1 < b
 quotient_fits x f b h = omega (arith, div-le_self x f)
-
-pub sure-short : (reach count place all : ℕ) → place < count → 0 < all → all ≤ (count - 1 - place) / reach + 1
-    → place + (all - 1) * reach < count
-sure-short reach count place all here some h =
-    let far : all - 1 ≤ (count - 1 - place) / reach = omega arith in
-    omega (arith, mul-le-mul_right reach far, div-add-mod' (count - 1 - place) reach)

@@ -10,7 +10,7 @@ use native.Mathlib.Omega.{arith}
 use lib.ListN.{length, take, set}
 use lib.Seq.{take-suc-set, length-take-le}
 use Rattle.numbers.specs.Words.{words_of}
-use Rattle.numbers.proofs.WordLaws.{words-length, words-store, store_length}
+use Rattle.numbers.proofs.WordLaws.{words-length, words-store}
 use Rattle.model.specs.ByteFills.{store_entry, store_entries}
 use Rattle.model.proofs.ByteStores.{stores-last}
 use Rattle.walk.specs.declared.moves.Moves.{Moves}
@@ -20,10 +20,7 @@ use Rattle.walk.specs.Driving.{FillsBytes}
 use Rattle.walk.specs.Bursts.{steps_on, burst_by, Sure, Starts}
 use Rattle.walk.proofs.MoveLaws.{ended-why}
 use Rattle.walk.proofs.RunLaws.{Runs, run-starts, run_ends}
-use Rattle.walk.proofs.BurstLaws.{steps-within, burst-length, run-bursts}
-
-pub entry_length : (bs : List ℕ) (n a : ℕ) → length (store_entry bs n a) ≡ length bs
-entry_length bs n a = store_length 4 _ a bs
+use Rattle.walk.proofs.BurstLaws.{entry_length, steps-within, burst-length, run-bursts}
 
 -- the first n words of the bytes are what was stored
 abbrev pub Stored : List ℕ → List ℕ → ℕ → Type 0

@@ -12,7 +12,7 @@ use Rattle.numbers.proofs.WordLaws.{words-length, words-store}
 use Rattle.model.specs.ByteFills.{store_entry, store_entries}
 use Rattle.model.proofs.ByteStores.{stores-last}
 use Rattle.walk.specs.Copying.{Extends}
-use Rattle.walk.proofs.ByteRuns.{entry_length}
+use Rattle.walk.proofs.BurstLaws.{entry_length}
 use Rattle.walk.proofs.StoreLaws.{stores-append}
 
 abbrev entry : List ℕ → ℕ → ℕ
@@ -160,10 +160,6 @@ pub record Doubling (period add to distance step : ℕ) (before list : List ℕ)
   pub low : step < 4294967296
   pub size : length list ≡ length before
   pub rest : (after : List ℕ) → Extends distance step to list after → Extends period add to before after
-
-pub doubling-starts : {period add to : ℕ} (before : List ℕ) → 0 < period → period ≤ to → add < 4294967296
-    → Doubling period add to period add before before
-doubling-starts before h l a = record { some = h; place = l; low = a; size = refl; rest = λ after e. e }
 
 pub doubling-twice : {period add to distance step : ℕ} {before list m : List ℕ} → to ≤ length before / 4 → 2 * distance ≤ to
     → Doubling period add to distance step before list → Extends distance step (2 * distance) list m

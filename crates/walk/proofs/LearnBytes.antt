@@ -1,5 +1,5 @@
 -- What a loop that fills a list of bytes by moves that are learnt keeps. Assumes nothing.
-use Prim.Native.Nat.{ℕ, ◌+◌, ◌-◌, ◌*◌, ◌/◌, ◌≤◌, ◌<◌}
+use Prim.Native.Nat.{ℕ, ◌+◌, ◌/◌, ◌≤◌, ◌<◌}
 use mathlib.Core.Path.{◌≡◌, refl, sym, ◌∙◌, subst}
 use mathlib.Core.Bool.{true, false}
 use mathlib.Core.List.{List}
@@ -13,27 +13,13 @@ use Rattle.model.specs.ByteFills.{store_entry, store_entries}
 use Rattle.walk.specs.declared.moves.State.{State}
 use Rattle.walk.specs.declared.moves.Made.{Made}
 use Rattle.walk.specs.declared.learning.Task.{Task}
-use Rattle.walk.specs.Moving.{Small, Sound, Roomy, has_ended}
-use Rattle.walk.specs.Bursts.{Bursts}
-use Rattle.walk.specs.Learning.{
-  Placed,
-  class_of,
-  turn_by,
-  class_add,
-  known_in,
-  Known,
-  Goes,
-  Advances,
-  by-known,
-  by-learning,
-  Begins,
-  FillsBytesEven,
-}
+use Rattle.walk.specs.Moving.{has_ended}
+use Rattle.walk.specs.Learning.{Placed, class_of, turn_by, class_add, known_in, Advances, by-known, by-learning, Begins, FillsBytesEven}
 use Rattle.walk.proofs.MoveLaws.{not-ended}
-use Rattle.walk.proofs.ByteRuns.{entry_length, Stored, stored_next, words-burst, stored-burst, bytes-why}
+use Rattle.walk.proofs.ByteRuns.{Stored, stored_next, words-burst, stored-burst, bytes-why}
 use Rattle.walk.proofs.LearnLaws.{class-learns, column-learns}
 use Rattle.walk.proofs.LearnRuns.{EvenRuns, Learning, even-starts, even-turns, even-bursts, even-ends}
-use Rattle.walk.proofs.BurstLaws.{burst-length, made-sure}
+use Rattle.walk.proofs.BurstLaws.{entry_length, burst-length, made-sure}
 
 pub record EvenBytes (f : Task) (s₀ : State) (bs₀ : List ℕ) (key : ℕ → ℕ) (table bs : List ℕ) (s : State) (n : ℕ) : Type 0 where
   pub same : length bs ≡ length bs₀
@@ -47,22 +33,6 @@ module _ {f : Task} {s₀ : State} (v : Begins f s₀) where
     even-bytes-start none = record { same = refl; stored = refl; runs = even-starts v.1 none }
 
     module _ {bs₀ table bs : List ℕ} {s : State} {n : ℕ} (r : EvenBytes f s₀ bs₀ key table bs s n) where
-      -- what is known before a turn
-      pub even-goes : has_ended f.count f.quota s ≡ false → Goes f s
-      even-goes on =
-          let h = not-ended f.count f.quota s on in
-          let place : (s.place.0 ≡ f.count → ⊥) = h.0 in
-          let paid : 3 ≤ f.quota - s.paid = h.1 in
-          record {
-            placed = v.0;
-            small = v.1.small;
-            sound = r.runs.sound;
-            few = v.1.few;
-            low = v.1.low;
-            place = omega (arith, r.runs.place);
-            paid = omega arith;
-          }
-
       -- one turn that learns
       pub even-bytes-turn : n < length bs₀ / 4 → has_ended f.count f.quota s ≡ false → {table' : List ℕ} (add : ℕ)
           → Learning f.elements f.moves f.count key table table' s add
@@ -112,25 +82,8 @@ module _ {f : Task} {s₀ : State} (v : Begins f s₀) where
   columns-advance {s = s} r room on (by-learning t) =
       even-bytes-turn r room on _ (λ w z d u here k. rw (← z) (column-learns w _ _ d (subst (Placed f.elements) (sym z) v.0) s u here (rw (← z) at t) k))
 
--- what a burst by what is known asks
-pub known-asks : {f : Task} {s : State} (columns : List ℕ) → Goes f s → (known_in columns s.column ≡ 0 → ⊥)
-    → {most : ℕ} → 0 < most → s.paid + 3 * most ≤ f.quota → Bursts f.moves f.count s most × Known f.count columns s
-known-asks columns g f some tries = (
-  record { small = g.small; sound = g.sound; few = g.few; place = g.place; some = some; tries = omega (arith, g.low) },
-  (g.place, f),
-)
-
--- and one turn that learns
-pub turn-asks : {f : Task} {s : State} → Goes f s → Placed f.elements f.count × Small f.moves × Sound f.moves s × Roomy s
-turn-asks g =
-    (g.placed, g.small, g.sound, record { place = omega (arith, g.place, g.few); paid = omega (arith, g.paid, g.low) })
-
--- the table keeps its length, some turn is made, and no more than there is room for
+-- some turn is made, and no more than there is room for
 module _ {f : Task} {columns : List ℕ} {s : State} {n : ℕ} {bs : List ℕ} where
-  pub advances-length : {columns' bs' : List ℕ} {o : Made} → Advances f columns s n bs columns' bs' o → length columns' ≡ length columns
-  advances-length (by-known most g fits b) = refl
-  advances-length (by-learning t) = t.same
-
   pub advances-some : n < length bs / 4 → {columns' bs' : List ℕ} {o : Made} → Advances f columns s n bs columns' bs' o → (0 < o.turns) × (n + o.turns ≤ length bs / 4)
   advances-some h (by-known most g fits b) = (b.some, omega (arith, b.low))
   advances-some h (by-learning t) = (omega arith, omega arith)

@@ -1,10 +1,9 @@
 -- What a move that is learnt serves, and that tables of such moves stay right. Assumes nothing.
-use Prim.Native.Nat.{ℕ, zero, suc, ◌+◌, ◌-◌, ◌*◌, ◌%◌, ◌≤◌, ◌<◌}
+use Prim.Native.Nat.{ℕ, zero, suc, ◌+◌, ◌-◌, ◌%◌, ◌≤◌, ◌<◌}
 use mathlib.Core.Path.{◌≡◌, refl, sym, ap, ◌∙◌}
 use mathlib.Core.Bool.{Bool, true, false, cond}
 use mathlib.Core.Logic.{◌⊎◌, inl, inr, ⊎_elim}
 use mathlib.Core.List.{List, [], ◌∷◌}
-use native.Mathlib.Nat.{mul-le-mul}
 use native.Mathlib.Decide.{ℕ_discrete, dec_lt}
 use native.Mathlib.Omega.{arith}
 use lib.Dec.{ltb, eqb}
@@ -36,12 +35,6 @@ use Rattle.walk.proofs.MoveLaws.{tries-few}
 use Rattle.walk.proofs.RunLaws.{Arrives}
 
 -- ---- bounds
-
-pub far-low : (e : Elements) (count t : ℕ) → Placed e count → t < count → t * e.stride < 4611686018427387904
-far-low e count t p h =
-    let a : t ≤ 2147483647 = omega (arith, p.few) in
-    let b : e.stride ≤ 2147483647 = omega (arith, p.stride) in
-    omega (arith, mul-le-mul a b)
 
 pub address-fits : (e : Elements) (count t : ℕ) → Placed e count → t < count → address_at e t < 2147483648
 unfolding address_at rank

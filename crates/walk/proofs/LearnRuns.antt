@@ -1,11 +1,11 @@
 -- What a loop that fills a list by moves that are learnt keeps. Assumes nothing.
-use Prim.Native.Nat.{ℕ, zero, suc, ◌+◌, ◌-◌, ◌≤◌, ◌<◌}
-use mathlib.Core.Path.{◌≡◌, refl}
+use Prim.Native.Nat.{ℕ, ◌+◌, ◌-◌, ◌≤◌, ◌<◌}
+use mathlib.Core.Path.{◌≡◌}
 use mathlib.Core.List.{List}
 use mathlib.Core.Logic.{◌⊎◌}
 use native.Mathlib.Nat.{mod-lt}
 use native.Mathlib.Omega.{arith}
-use lib.ListN.{length, get_or, set, replicate}
+use lib.ListN.{length, get_or, set}
 use Rattle.model.specs.Filling.{Walk, fill_by}
 use Rattle.walk.specs.declared.moves.Moves.{Moves}
 use Rattle.walk.specs.declared.moves.State.{State}
@@ -33,12 +33,6 @@ abbrev pub Learning : Elements → Moves → ℕ → (ℕ → ℕ) → List ℕ 
 Learning e m count key table table' s add =
     (w : Walk) → w.count ≡ count → (d : Even w m e) → Stands w m d.paces s → s.place.0 < w.count → Knows w m e d key table
     → Arrives w m d.paces s add × Knows w m e d key table'
-
--- a new table knows no move
-pub none-known : (n q : ℕ) → get_or {A = ℕ} (replicate n 0) q 0 ≡ 0
-none-known zero q = refl
-none-known (suc n) zero = refl
-none-known (suc n) (suc q) = none-known n q
 
 module _ {e : Elements} {m : Moves} {count quota : ℕ} {s₀ : State} {key : ℕ → ℕ} (v : Starts m count quota s₀) where
   pub even-starts : {l table : List ℕ} → ((q : ℕ) → get_or table q 0 ≡ 0) → EvenRuns e m count quota s₀ l key table l s₀ 0

@@ -1,6 +1,6 @@
 -- Which columns one step is taken from, and that columns whole periods apart are of one class. Assumes nothing.
 use Prim.Native.Nat.{ℕ, ◌+◌, ◌-◌, ◌*◌, ◌/◌, ◌%◌, ◌≤◌, ◌<◌}
-use mathlib.Core.Path.{◌≡◌, refl, sym, ap, ◌∙◌}
+use mathlib.Core.Path.{◌≡◌, sym, ap, ◌∙◌}
 use mathlib.Core.List.{List}
 use mathlib.Core.Logic.{inl, inr, ⊎_elim}
 use native.Mathlib.Nat.{add-mul-mod_self_right, div-mul-le_self, add-mod_right}
@@ -52,9 +52,6 @@ pub record Entering (first end period add : ℕ) (columns₀ columns : List ℕ)
   pub rest : at % period ≡ first % period
 
 module _ (first end period add : ℕ) {columns₀ : List ℕ} where
-  pub entering-starts : Entering first end period add columns₀ columns₀ first
-  entering-starts = record { entered = record { same = refl; each = λ x. inl refl }; from = omega arith; rest = refl }
-
   pub entering-turns : {columns : List ℕ} {at : ℕ} → Entering first end period add columns₀ columns at → at < end
       → Entering first end period add columns₀ (set columns at add) (at + period)
   entering-turns {columns} {at} r h = record {

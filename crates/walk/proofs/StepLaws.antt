@@ -1,8 +1,6 @@
 -- What a loop of steps without a list keeps, and how long a period is. Assumes nothing.
 use Prim.Native.Nat.{ℕ, ◌+◌, ◌-◌, ◌/◌, ◌%◌, ◌≤◌, ◌<◌}
 use mathlib.Core.Path.{◌≡◌, refl, ap}
-use mathlib.Core.Logic.{◌⊎◌}
-use native.Mathlib.Nat.{div-le_self}
 use native.Mathlib.Decide.{dec_lt}
 use native.Mathlib.Numerals.{add-one}
 use native.Mathlib.Omega.{arith}
@@ -12,13 +10,9 @@ use Rattle.walk.specs.declared.moves.Moves.{Moves}
 use Rattle.walk.specs.declared.moves.State.{State}
 use Rattle.walk.specs.Moving.{add_from, stepped_by, stepped, Small, Sound, Roomy}
 use Rattle.walk.specs.Bursts.{steps_on}
-use Rattle.walk.specs.Repeating.{period_steps, StepsUntil}
+use Rattle.walk.specs.Repeating.{period_steps}
 use Rattle.walk.proofs.MoveLaws.{light}
 use Rattle.walk.proofs.BurstLaws.{steps-within}
-
--- as long as a period is no longer than a block
-pub period-low : (k q d : ℕ) → 0 < k → k ≤ 65536 → (0 < (k - 1 - q % d) / d + 1) × ((k - 1 - q % d) / d + 1 ≤ 65536)
-period-low k q d h l = (omega arith, omega (arith, div-le_self (k - 1 - q % d) d))
 
 -- one step, or two
 pub period-one : (m : Moves) (q : ℕ) → m.up ≡ 0 → 1 ≡ period_steps m q
@@ -61,7 +55,3 @@ module _ (m : Moves) (count quota : ℕ) (s₀ : State) (most : ℕ) where
         state = ap (stepped_by m (add_from m)) v.state;
         paid = omega (arith, (light m s.column small at.column).tries);
       })
-
-  pub stepping-ends : {s : State} {i : ℕ} → Stepping s i → (i ≡ most) ⊎ ((count ≤ s.place.0) ⊎ (quota - s.paid < 3))
-      → StepsUntil m count quota s₀ most (record { state = s; turns = i })
-  stepping-ends v why = record { low = v.low; each = v.each; state = v.state; paid = v.paid; why = why }

@@ -1,9 +1,9 @@
 -- Entries stored into a list of bytes: what is stored over what was, one part after another, and into a part of a list. Assumes
 -- nothing.
-use Prim.Native.Nat.{ℕ, zero, suc, ◌+◌, ◌*◌, ◌/◌, ◌%◌, ◌≤◌, ◌<◌}
+use Prim.Native.Nat.{ℕ, zero, suc, ◌+◌, ◌-◌, ◌*◌, ◌/◌, ◌%◌, ◌≤◌, ◌<◌}
 use mathlib.Core.Path.{◌≡◌, refl, sym, ap, ◌∙◌}
 use mathlib.Core.List.{List, [], ◌∷◌, ◌++◌, append_assoc}
-use native.Mathlib.Nat.{add-zero}
+use native.Mathlib.Nat.{add-zero, div-div-eq-div-mul}
 use native.Mathlib.Omega.{arith}
 use lib.ListN.{length, take, drop, get_or, set, length-append, length-drop, take-append-drop}
 use lib.Seq.{sets, sets-eq, length-take-le, drop-drop, drop-append-le, get_or-drop, ext_get_or, take_at, drop_at}
@@ -50,6 +50,17 @@ stores-are bs n (x ∷ xs) =
     let e : 4 * suc n ≡ 4 * n + length (bytes_of 4 x) = omega (arith, length-bytes 4 x) in
     stores-are (store_entry bs n x) (suc n) xs
     ∙ rw (e, store_is 4 bs (4 * n) x) (sym (sets-append bs (4 * n) (bytes_of 4 x) (all_bytes xs)))
+
+-- the 4 bytes of one word, put in the middle of a list
+four-bytes : (x : ℕ) → bytes_of 4 x ≡ x % 256 ∷ x / 256 % 256 ∷ x / 65536 % 256 ∷ x / 16777216 % 256 ∷ []
+unfolding bytes_of
+four-bytes x = rw (div-div-eq-div-mul x 256 256, div-div-eq-div-mul x 65536 256)
+
+pub store-middle : (bs : List ℕ) (i x : ℕ) → i + 4 ≤ length bs
+    → take i bs ++ ((x % 256 ∷ x / 256 % 256 ∷ x / 65536 % 256 ∷ x / 16777216 % 256 ∷ []) ++ drop (i + 4 - i) (drop i bs)) ≡ store_at 4 bs i x
+store-middle bs i x h =
+    let some : i + 4 - i ≡ 4 = omega arith in
+    rw (store_is 4 bs i x, sets-eq (bytes_of 4 x) bs i (omega (arith, length-bytes 4 x)), length-bytes 4 x, some, drop-drop 4 i bs, four-bytes x, append_assoc)
 
 -- the list afterwards: its front, the bytes, and its rest
 stores-whole : (bs : List ℕ) (n : ℕ) (xs : List ℕ) → 4 * (n + length xs) ≤ length bs

@@ -1,12 +1,12 @@
 // Fills of a list of bytes by constant moves, 4 bytes to an address, lowest first. Up to 3
 // bytes left over are no entry and stay.
-ghost use Rattle.std.specs.Prelude.{◌≡◌, ◌+◌, ◌*◌, ◌/◌, ◌≤◌, ◌<◌, length};
+ghost use Rattle.std.specs.Prelude.{◌≡◌, ◌+◌, ◌*◌, ◌/◌, ◌≤◌, ◌<◌, true, length};
 ghost use Rattle.model.specs.ByteFills.{store_entry};
 ghost use Rattle.walk.specs.Moving.{add_from};
 ghost use Rattle.walk.specs.Bursts.{Starts, Bursts, Bursted, Short, Before};
 ghost use Rattle.walk.specs.Driving.{FillsBytes};
 
-use crate::moves::{self, Made, Moves, Report, State};
+use crate::moves::{Made, Moves, Report, SHORT, State};
 
 // An address stored as entry n.
 pub fn put_entry(list: &mut [u8], n: usize, x: u32)
@@ -14,31 +14,13 @@ pub fn put_entry(list: &mut [u8], n: usize, x: u32)
     ensures { list.new ≡ store_entry list.old n x }
 {
     let at = 4 * n;
-    list[at] = (x % 256) as u8;
-    list[at + 1] = (x / 256 % 256) as u8;
-    list[at + 2] = (x / 65536 % 256) as u8;
-    list[at + 3] = (x / 16777216 % 256) as u8;
+    list[at..at + 4].copy_from_slice(&x.to_le_bytes());
 }
 
-// So many turns that are sure to write, from entry `from` on, with no test but that of the
-// column.
-fn burst(m: Moves, count: u64, start: State, list: &mut [u8], from: usize, turns: usize) -> Made
-    requires { Bursts m count start turns × Short m count start turns × (from + turns ≤ length list.old / 4) }
-    ensures { Bursted store_entry m (add_from m) (Before count) start from turns list.old list.new result }
-{
-    let mut s = start;
-    let mut i: usize = 0;
-    while i < turns {
-        put_entry(list, from + i, s.address.0 as u32);
-        s = moves::step(m, s);
-        i += 1;
-    }
-    Made { state: s, turns: i }
-}
-
-// At most so many turns that end where the count is reached. A test at each turn costs less
-// than many bursts that are short.
-fn tested_burst(
+// So many turns from entry `from` on. Where they are sure to write, there is no test but that of the
+// column; else they end where the count is reached: a test at each turn costs less than many bursts
+// that are short.
+fn burst<const SURE: bool>(
     m: Moves,
     count: u64,
     start: State,
@@ -46,20 +28,19 @@ fn tested_burst(
     from: usize,
     turns: usize,
 ) -> Made
-    requires { Bursts m count start turns × (from + turns ≤ length list.old / 4) }
+    requires { Bursts m count start turns × (SURE ≡ true → Short m count start turns)
+        × (from + turns ≤ length list.old / 4) }
     ensures { Bursted store_entry m (add_from m) (Before count) start from turns list.old list.new result }
 {
     let mut s = start;
-    let mut i: usize = 0;
-    while i < turns {
-        if count <= s.place.0 {
-            break;
+    for i in 0..turns {
+        if !SURE && count <= s.place.0 {
+            return Made { state: s, turns: i };
         }
         put_entry(list, from + i, s.address.0 as u32);
-        s = moves::step(m, s);
-        i += 1;
+        s = m.step(s);
     }
-    Made { state: s, turns: i }
+    Made { state: s, turns }
 }
 
 // The next turns, at most so many.
@@ -67,11 +48,11 @@ fn next_turns(m: Moves, count: u64, start: State, list: &mut [u8], from: usize, 
     requires { Bursts m count start most × (from + most ≤ length list.old / 4) }
     ensures { Bursted store_entry m (add_from m) (Before count) start from most list.old list.new result }
 {
-    let turns = moves::sure_turns(m, count, start, most);
-    if turns < moves::SHORT {
-        return tested_burst(m, count, start, list, from, most);
+    let turns = m.sure_turns(count, start, most);
+    if turns < SHORT {
+        return burst::<false>(m, count, start, list, from, most);
     }
-    burst(m, count, start, list, from, turns)
+    burst::<true>(m, count, start, list, from, turns)
 }
 
 // The fill of a list from a state, in bursts: all that is reported and every byte, along any walk
@@ -84,14 +65,15 @@ pub fn fill_bytes(m: Moves, count: u64, quota: u64, start: State, list: &mut [u8
     let room = list.len() / 4;
     let mut s = start;
     let mut n: usize = 0;
+    // Not a `for`: n goes on by as many turns as were made.
     while n < room {
-        if moves::has_ended(count, quota, s) {
+        if s.has_ended(count, quota) {
             break;
         }
-        let turns = moves::paid_turns(quota, s.paid, room - n);
+        let turns = s.paid_turns(quota, room - n);
         let made = next_turns(m, count, s, list, n, turns);
-        s = moves::stop_at(count, made.state);
+        s = made.state.stop_at(count);
         n += made.turns;
     }
-    moves::report_of(n, s)
+    s.report(n)
 }

@@ -5,8 +5,8 @@ ghost use Rattle.walk.specs.Moving.{Small, Sound, Roomy};
 ghost use Rattle.walk.specs.Learning.{Placed, class_of, class_move, class_add, turn_by, Begins, FillsBytesEven};
 
 use crate::bytes::put_entry;
-use crate::learning::{self, Elements, Task};
-use crate::moves::{self, Report, State};
+use crate::learning::{Elements, Task};
+use crate::moves::{Report, State};
 use model::{Address, Position};
 
 // What is added to come from address a to that of place t, by the move of class c. One that
@@ -17,13 +17,13 @@ fn move_by(e: Elements, count: u64, classes: &mut [u32], c: usize, t: Position, 
         × (classes.new ≡ set classes.old c result) }
 {
     if classes.len() <= c {
-        return learning::find_move(e, count, t, a);
+        return e.find_move(count, t, a);
     }
     let known = classes[c];
     if known != 0 {
         return known as u64;
     }
-    let found = learning::find_move(e, count, t, a);
+    let found = e.find_move(count, t, a);
     classes[c] = found as u32;
     found
 }
@@ -36,13 +36,13 @@ fn turn(f: Task, classes: &mut [u32], s: State) -> State
 {
     let e = f.elements;
     let m = f.moves;
-    let next = moves::step(m, s);
+    let next = m.step(s);
     let place = next.place;
     let a = s.address;
     let tries = next.paid - s.paid;
-    let c = s.column % learning::period_of(e) * 4 + tries;
+    let c = s.column % e.period() * 4 + tries;
     let add = move_by(e, f.count, classes, c as usize, place, a);
-    moves::stop_at(f.count, learning::moved_on(next, a, add))
+    next.moved_on(a, add).stop_at(f.count)
 }
 
 // The fill, with a table that knows no move yet.
@@ -52,14 +52,12 @@ pub fn fill_by_classes(f: Task, start: State, classes: &mut [u32], list: &mut [u
 {
     let room = list.len() / 4;
     let mut s = start;
-    let mut n: usize = 0;
-    while n < room {
-        if moves::has_ended(f.count, f.quota, s) {
-            break;
+    for n in 0..room {
+        if s.has_ended(f.count, f.quota) {
+            return s.report(n);
         }
         put_entry(list, n, s.address.0 as u32);
         s = turn(f, classes, s);
-        n += 1;
     }
-    moves::report_of(n, s)
+    s.report(room)
 }

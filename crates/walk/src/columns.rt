@@ -7,12 +7,13 @@ ghost use Rattle.walk.specs.Bursts.{Bursts, Bursted};
 ghost use Rattle.walk.specs.Learning.{Placed, found_add, turn_by, Entered, known_in, Known, Goes, Advances, Begins, FillsBytesEven};
 
 use crate::bytes::put_entry;
-use crate::learning::{self, Task};
-use crate::moves::{self, Made, Moves, Report, State};
+use crate::learning::Task;
+use crate::moves::{Made, Moves, Report, State};
 use crate::spread;
 
 // At most so many turns by what is known, from entry `from` on, that end where the count is
-// reached or a column is not known.
+// reached or a column is not known. Not one with `bytes::burst`: a closure for the next state, or
+// none, would have to carry what both say of their steps.
 fn known_turns(
     m: Moves,
     count: u64,
@@ -29,18 +30,17 @@ fn known_turns(
 {
     let mut s = start;
     let mut i: usize = 0;
+    // Not a `for`: a loop that returns from inside took 1.5 times as long.
     while i < turns {
         if count <= s.place.0 {
             break;
         }
-        let q = s.column as usize;
-        let add = columns[q] as u64;
+        let add = columns[s.column as usize] as u64;
         if add == 0 {
             break;
         }
         put_entry(list, from + i, s.address.0 as u32);
-        let a = s.address;
-        s = learning::moved_on(moves::step(m, s), a, add);
+        s = m.step(s).moved_on(s.address, add);
         i += 1;
     }
     Made { state: s, turns: i }
@@ -54,12 +54,12 @@ fn turn(f: Task, columns: &mut [u32], s: State) -> State
 {
     let e = f.elements;
     let m = f.moves;
-    let next = moves::step(m, s);
+    let next = m.step(s);
     let place = next.place;
     let a = s.address;
-    let add = learning::find_move(e, f.count, place, a);
+    let add = e.find_move(f.count, place, a);
     spread::enter(e, m, f.count, columns, s.column, add);
-    moves::stop_at(f.count, learning::moved_on(next, a, add))
+    next.moved_on(a, add).stop_at(f.count)
 }
 
 // The next turns: as many as are known, or one that learns.
@@ -70,10 +70,10 @@ fn next_turns(f: Task, columns: &mut [u32], s: State, list: &mut [u8], n: usize)
     let q = s.column as usize;
     if columns[q] != 0 {
         let m = f.moves;
-        let most = moves::paid_turns(f.quota, s.paid, list.len() / 4 - n);
+        let most = s.paid_turns(f.quota, list.len() / 4 - n);
         let made = known_turns(m, f.count, columns, s, list, n, most);
         return Made {
-            state: moves::stop_at(f.count, made.state),
+            state: made.state.stop_at(f.count),
             turns: made.turns,
         };
     }
@@ -84,7 +84,9 @@ fn next_turns(f: Task, columns: &mut [u32], s: State, list: &mut [u8], n: usize)
     }
 }
 
-// The fill, with a table that knows no move yet.
+// The fill, with a table that knows no move yet. Not one with `bytes::fill_bytes` and
+// `classes::fill_by_classes`: a closure for the next turns would have to carry what each of the three
+// keeps from turn to turn, which is all that their proofs are about.
 pub fn fill_by_columns(f: Task, start: State, columns: &mut [u32], list: &mut [u8]) -> Report
     requires { Begins f start × (f.moves.block ≤ length columns.old) × ((q : ℕ) → get_or columns.old q 0 ≡ 0) }
     ensures { FillsBytesEven f start list.old list.new result }
@@ -92,13 +94,14 @@ pub fn fill_by_columns(f: Task, start: State, columns: &mut [u32], list: &mut [u
     let room = list.len() / 4;
     let mut s = start;
     let mut n: usize = 0;
+    // Not a `for`: n goes on by as many turns as were made.
     while n < room {
-        if moves::has_ended(f.count, f.quota, s) {
+        if s.has_ended(f.count, f.quota) {
             break;
         }
         let made = next_turns(f, columns, s, list, n);
         s = made.state;
         n += made.turns;
     }
-    moves::report_of(n, s)
+    s.report(n)
 }

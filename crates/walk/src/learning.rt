@@ -3,7 +3,7 @@
 ghost use Rattle.std.specs.Prelude.{◌≡◌, ◌<◌};
 ghost use Rattle.walk.specs.Learning.{element_at, address_at, Placed, period_of, move_to, moved};
 
-use crate::moves::{self, Moves, State};
+use crate::moves::{ADDRESSES, Moves, State};
 use model::{Address, Index, Layout, Position};
 
 // The elements at the places of a walk: place t has element first + t * stride, or
@@ -26,59 +26,56 @@ pub struct Task {
     pub quota: u64,
 }
 
-// The element at place t.
-fn element_at(e: Elements, count: u64, t: Position) -> Index
-    requires { Placed e count × (t.0 < count) }
-    ensures { result.0 ≡ element_at e t.0 }
-{
-    let far = t.0 * e.stride;
-    if e.upward {
-        return Index(e.first.0 + far);
+impl Elements {
+    // The element at place t.
+    fn element_at(self, count: u64, t: Position) -> Index
+        requires { Placed self count × (t.0 < count) }
+        ensures { result.0 ≡ element_at self t.0 }
+    {
+        let far = t.0 * self.stride;
+        if self.upward {
+            return Index(self.first.0 + far);
+        }
+        Index(self.first.0 - far)
     }
-    Index(e.first.0 - far)
-}
 
-// Its local address.
-fn address_at(e: Elements, count: u64, t: Position) -> Address
-    requires { Placed e count × (t.0 < count) }
-    ensures { result.0 ≡ address_at e t.0 }
-{
-    let l = e.layout;
-    mapping::dealing::local_address(l, element_at(e, count, t))
-}
-
-// The period of the columns that move alike.
-pub(crate) fn period_of(e: Elements) -> u64
-    ensures { result ≡ period_of e }
-{
-    let l = e.layout;
-    if l.stride < l.block {
-        return l.stride;
+    // Its local address.
+    fn address_at(self, count: u64, t: Position) -> Address
+        requires { Placed self count × (t.0 < count) }
+        ensures { result.0 ≡ address_at self t.0 }
+    {
+        mapping::dealing::local_address(self.layout, self.element_at(count, t))
     }
-    l.block
-}
 
-// What is added to come from address a to that of place t. Past the count nothing is.
-pub(crate) fn find_move(e: Elements, count: u64, t: Position, a: Address) -> u64
-    requires { Placed e count × (a.0 < 4294967296) }
-    ensures { (result ≡ move_to e count t.0 a.0) × (result < 4294967296) }
-{
-    if count <= t.0 {
-        return 0;
+    // The period of the columns that move alike.
+    pub(crate) fn period(self) -> u64
+        ensures { result ≡ period_of self }
+    {
+        let l = self.layout;
+        l.stride.min(l.block)
     }
-    (address_at(e, count, t).0 + (moves::ADDRESSES - a.0)) % moves::ADDRESSES
+
+    // What is added to come from address a to that of place t. Past the count nothing is.
+    pub(crate) fn find_move(self, count: u64, t: Position, a: Address) -> u64
+        requires { Placed self count × (a.0 < 4294967296) }
+        ensures { (result ≡ move_to self count t.0 a.0) × (result < 4294967296) }
+    {
+        if count <= t.0 {
+            return 0;
+        }
+        (self.address_at(count, t).0 + (ADDRESSES - a.0)) % ADDRESSES
+    }
 }
 
-// The state s with the address that lies so much after a.
-pub(crate) fn moved_on(s: State, a: Address, add: u64) -> State
-    requires { (a.0 < 4294967296) × (add < 4294967296) }
-    ensures { result ≡ moved s a.0 add }
-{
-    let place = s.place;
-    State {
-        column: s.column,
-        address: Address((a.0 + add) % moves::ADDRESSES),
-        place: place,
-        paid: s.paid,
+impl State {
+    // This state with the address that lies so much after a.
+    pub(crate) fn moved_on(self, a: Address, add: u64) -> State
+        requires { (a.0 < 4294967296) × (add < 4294967296) }
+        ensures { result ≡ moved self a.0 add }
+    {
+        State {
+            address: Address((a.0 + add) % ADDRESSES),
+            ..self
+        }
     }
 }

@@ -11,6 +11,7 @@ use model::{Address, LEAST_TRIES, Position};
 // processor step goes up and the return step down; how many positions each goes on; and
 // what is added to the address for the one, for the other and for both. A walk of one step
 // has up 0, so that its step always fits.
+// No ghost field says that they are small (`Small`): fill's `moves_by` makes moves of any steps.
 #[derive(Clone, Copy)]
 pub struct Moves {
     pub block: u64,
@@ -53,97 +54,89 @@ pub const ADDRESSES: u64 = 4294967296;
 // A burst of fewer turns is short.
 pub(crate) const SHORT: usize = 16;
 
-// The state after the first step that fits: the processor step, the return step, or both.
-// The place may pass the count.
-pub(crate) fn step(m: Moves, s: State) -> State
-    requires { Small m × Sound m s × Roomy s }
-    ensures { result ≡ stepped m s }
-{
-    let column = s.column;
-    let address = s.address.0;
-    let place = s.place.0;
-    let paid = s.paid;
-    if column + m.up < m.block {
-        State {
-            column: column + m.up,
-            address: Address((address + m.near) % ADDRESSES),
-            place: Position(place + m.first),
-            paid: paid + 1,
+impl Moves {
+    // The state after the first step that fits: the processor step, the return step, or both.
+    // The place may pass the count.
+    pub(crate) fn step(self, s: State) -> State
+        requires { Small self × Sound self s × Roomy s }
+        ensures { result ≡ stepped self s }
+    {
+        let column = s.column;
+        let address = s.address.0;
+        let place = s.place.0;
+        let paid = s.paid;
+        if column + self.up < self.block {
+            State {
+                column: column + self.up,
+                address: Address((address + self.near) % ADDRESSES),
+                place: Position(place + self.first),
+                paid: paid + 1,
+            }
+        } else if self.down <= column {
+            State {
+                column: column - self.down,
+                address: Address((address + self.far) % ADDRESSES),
+                place: Position(place + self.second),
+                paid: paid + 2,
+            }
+        } else {
+            State {
+                column: column + self.up - self.down,
+                address: Address((address + self.both) % ADDRESSES),
+                place: Position(place + (self.first + self.second)),
+                paid: paid + 3,
+            }
         }
-    } else if m.down <= column {
-        State {
-            column: column - m.down,
-            address: Address((address + m.far) % ADDRESSES),
-            place: Position(place + m.second),
-            paid: paid + 2,
+    }
+
+    // How many turns, of at most `most`, are sure to write: none but the last can reach the count.
+    pub(crate) fn sure_turns(self, count: u64, s: State, most: usize) -> usize
+        requires { Small self × (s.place.0 < count) × (0 < most) }
+        ensures { (0 < result) × (result ≤ most) × Short self count s result }
+    {
+        let places = (count - 1 - s.place.0) / (self.first + self.second) + 1;
+        places.min(most as u64) as usize
+    }
+}
+
+impl State {
+    // A place that passed the count is the count.
+    pub(crate) fn stop_at(self, count: u64) -> State
+        ensures { result ≡ stop_at count self }
+    {
+        if self.place.0 < count {
+            return self;
         }
-    } else {
         State {
-            column: column + m.up - m.down,
-            address: Address((address + m.both) % ADDRESSES),
-            place: Position(place + (m.first + m.second)),
-            paid: paid + 3,
+            place: Position(count),
+            ..self
         }
     }
-}
 
-// A place that passed the count is the count.
-pub(crate) fn stop_at(count: u64, s: State) -> State
-    ensures { result ≡ stop_at count s }
-{
-    if s.place.0 < count {
-        return s;
+    // No turn is made where the place is the count or too few tries are left.
+    pub(crate) fn has_ended(self, count: u64, quota: u64) -> bool
+        requires { self.paid ≤ quota }
+        ensures { result ≡ has_ended count quota self }
+    {
+        self.place.0 == count || quota - self.paid < LEAST_TRIES
     }
-    let address = s.address;
-    State {
-        column: s.column,
-        address: address,
-        place: Position(count),
-        paid: s.paid,
+
+    // How many turns, of at most `room`, have their tries, whatever each turn costs.
+    pub(crate) fn paid_turns(self, quota: u64, room: usize) -> usize
+        requires { (self.paid + 3 ≤ quota) × (0 < room) }
+        ensures { (0 < result) × (result ≤ room) × (self.paid + 3 * result ≤ quota) }
+    {
+        ((quota - self.paid) / LEAST_TRIES).min(room as u64) as usize
     }
-}
 
-// The lesser of two numbers, which is some where both are. No more is said of it: callers count turns
-// that are surely made, and fewer would only cost more bursts.
-pub fn least(a: u64, b: u64) -> u64
-    ensures { (result ≤ a) × (result ≤ b) × ((0 < a) → (0 < b) → 0 < result) }
-{
-    if a < b { a } else { b }
-}
-
-// No turn is made where the place is the count or too few tries are left.
-pub(crate) fn has_ended(count: u64, quota: u64, s: State) -> bool
-    requires { s.paid ≤ quota }
-    ensures { result ≡ has_ended count quota s }
-{
-    s.place.0 == count || quota - s.paid < LEAST_TRIES
-}
-
-// What a fill that came to state s with so many entries returns.
-pub(crate) fn report_of(entries: usize, s: State) -> Report
-    ensures { result ≡ record { entries = entries; tries = s.paid; place = s.place } }
-{
-    let place = s.place;
-    Report {
-        entries,
-        tries: s.paid,
-        place: place,
+    // What a fill that came to this state with so many entries returns.
+    pub(crate) fn report(self, entries: usize) -> Report
+        ensures { result ≡ record { entries = entries; tries = self.paid; place = self.place } }
+    {
+        Report {
+            entries,
+            tries: self.paid,
+            place: self.place,
+        }
     }
-}
-
-// How many turns, of at most `most`, are sure to write: none but the last can reach the count.
-pub(crate) fn sure_turns(m: Moves, count: u64, s: State, most: usize) -> usize
-    requires { Small m × (s.place.0 < count) × (0 < most) }
-    ensures { (0 < result) × (result ≤ most) × Short m count s result }
-{
-    let places = (count - 1 - s.place.0) / (m.first + m.second) + 1;
-    least(places, most as u64) as usize
-}
-
-// How many turns, of at most `room`, have their tries, whatever each turn costs.
-pub(crate) fn paid_turns(quota: u64, paid: u64, room: usize) -> usize
-    requires { (paid + 3 ≤ quota) × (0 < room) }
-    ensures { (0 < result) × (result ≤ room) × (paid + 3 * result ≤ quota) }
-{
-    least((quota - paid) / LEAST_TRIES, room as u64) as usize
 }

@@ -3,7 +3,7 @@ ghost use Rattle.std.specs.Prelude.{◌≡◌, ◌+◌, ◌≤◌, ◌<◌};
 ghost use Rattle.walk.specs.Moving.{Small, Sound};
 ghost use Rattle.walk.specs.Repeating.{period_steps, StepsUntil};
 
-use crate::moves::{self, Made, Moves, State};
+use crate::moves::{Made, Moves, State};
 use model::LEAST_TRIES;
 use numbers::gcd;
 
@@ -28,16 +28,14 @@ pub fn steps_until(m: Moves, count: u64, quota: u64, start: State, most: usize) 
     ensures { StepsUntil m count quota start most result }
 {
     let mut s = start;
-    let mut i: usize = 0;
-    while i < most {
-        if count <= s.place.0 {
-            break;
+    for i in 0..most {
+        if count <= s.place.0 || quota - s.paid < LEAST_TRIES {
+            return Made { state: s, turns: i };
         }
-        if quota - s.paid < LEAST_TRIES {
-            break;
-        }
-        s = moves::step(m, s);
-        i += 1;
+        s = m.step(s);
     }
-    Made { state: s, turns: i }
+    Made {
+        state: s,
+        turns: most,
+    }
 }

@@ -10,43 +10,21 @@ use crate::columns::fill_by_columns;
 use crate::learning::Task;
 use crate::moves::{Report, State};
 
-fn with_few_columns(f: Task, start: State, list: &mut [u8]) -> Report
-    requires { Begins f start × (f.moves.block ≤ 128) }
+// By columns, of which the table has at least a block's.
+fn with_columns<const N: usize>(f: Task, start: State, list: &mut [u8]) -> Report
+    requires { Begins f start × (f.moves.block ≤ N) × (N ≤ 16384) }
     ensures { FillsBytesEven f start list.old list.new result }
 {
-    let mut columns = [0u32; 128];
+    let mut columns = [0u32; N];
     fill_by_columns(f, start, &mut columns, list)
 }
 
-fn with_many_columns(f: Task, start: State, list: &mut [u8]) -> Report
-    requires { Begins f start × (f.moves.block ≤ 1024) }
+// By classes, of which the table may have fewer than there are.
+fn with_classes<const N: usize>(f: Task, start: State, list: &mut [u8]) -> Report
+    requires { Begins f start × (N ≤ 16384) }
     ensures { FillsBytesEven f start list.old list.new result }
 {
-    let mut columns = [0u32; 1024];
-    fill_by_columns(f, start, &mut columns, list)
-}
-
-fn with_few_classes(f: Task, start: State, list: &mut [u8]) -> Report
-    requires { Begins f start }
-    ensures { FillsBytesEven f start list.old list.new result }
-{
-    let mut classes = [0u32; 256];
-    fill_by_classes(f, start, &mut classes, list)
-}
-
-fn with_many_classes(f: Task, start: State, list: &mut [u8]) -> Report
-    requires { Begins f start }
-    ensures { FillsBytesEven f start list.old list.new result }
-{
-    let mut classes = [0u32; 1024];
-    fill_by_classes(f, start, &mut classes, list)
-}
-
-fn with_all_classes(f: Task, start: State, list: &mut [u8]) -> Report
-    requires { Begins f start }
-    ensures { FillsBytesEven f start list.old list.new result }
-{
-    let mut classes = [0u32; 16384];
+    let mut classes = [0u32; N];
     fill_by_classes(f, start, &mut classes, list)
 }
 
@@ -63,15 +41,15 @@ pub fn fill_bytes_learning(f: Task, start: State, list: &mut [u8]) -> Report
         return fill_bytes(m, f.count, f.quota, start, list);
     }
     if entries <= 64 {
-        return with_few_classes(f, start, list);
+        return with_classes::<256>(f, start, list);
     }
     if m.block <= 128 {
-        return with_few_columns(f, start, list);
+        return with_columns::<128>(f, start, list);
     }
     if m.block <= 1024 && m.block as usize / 4 <= entries {
-        return with_many_columns(f, start, list);
+        return with_columns::<1024>(f, start, list);
     }
-    with_many_classes(f, start, list)
+    with_classes::<1024>(f, start, list)
 }
 
 // The same of a list that may be long: where there are many classes, a table that has them all pays.
@@ -81,10 +59,9 @@ pub fn fill_long_learning(f: Task, start: State, list: &mut [u8]) -> Report
     ensures { FillsBytesEven f start list.old list.new result }
 {
     let m = f.moves;
-    let e = f.elements;
-    let l = e.layout;
+    let l = f.elements.layout;
     if 1024 < m.block && 256 < l.stride && 1024 <= list.len() / 4 {
-        return with_all_classes(f, start, list);
+        return with_classes::<16384>(f, start, list);
     }
     fill_bytes_learning(f, start, list)
 }

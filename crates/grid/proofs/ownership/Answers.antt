@@ -1,37 +1,32 @@
 -- `ownership` meets its contract.
-use mathlib.Core.Path.{sym, ◌∙◌}
-use mathlib.Core.Bool.{cond}
-use lib.IntN.{pos}
-use lib.Signed.{le_z}
+use Rattle.std.proofs.Common.{sym, ap, ◌∙◌, pos, rules}
+use lib.IntN.{ℤ}
+use Rattle.model.specs.declared.three.Three.{Three}
+use Rattle.model.specs.Grids.{up_to}
 use mir.Syntax.{w64}
-use mir.Val.{SFits}
 use mir.ValLaws.{to_z-of_z}
-use Rattle.grid.specs.Answers.{indices_from, ownership_on}
-use Rattle.grid.proofs.CallLaws.{known_by, told-apart, ownership-by, ownership-refused}
+use Rattle.model.proofs.RefusalLaws.{told-apart, passed_on}
+use Rattle.mapping.specs.Answers.{owned_as}
+use Rattle.grid.specs.Answers.{ownership_on}
+use Rattle.grid.proofs.CallLaws.{known_by, ownership-by, ownership-refused}
 use Rattle.grid.proofs.ownership.Goals as goal
 
-pub owned_on-requires : goal.owned_on-requires
-owned_on-requires c = known_by c.args.g c.args.b.now c.args.c.now c.args.d.now _ (sym c.ask_grid.ensures ∙ c.in-By.is)
+pub returns-in_err-x : goal.returns-in_err-x
+returns-in_err-x c = record {
+  result_value = ap owned_as (passed_on c.from_residual.result c.in_err-x.field-0.0 c.from_residual.ensures.1)
+      ∙ ownership-refused c.args.g c.args.sizes.first.now c.args.sizes.second.now c.args.sizes.third.now _ (sym c.in_err-x.ensures)
+      c.args.indices;
+  told_apart = told-apart c.from_residual.result;
+}
 
-pub returns-in-By : goal.returns-in-By
-returns-in-By c =
-    let fits : SFits w64 c.args.g.rank = record { sfits = c.struct_told-1.given.0.1 } in
-    let r = to_z-of_z w64 c.args.g.rank fits in
-    let i = to_z-of_z w64 c.args.first c.ranges.first in
-    let v = to_z-of_z w64 c.args.second c.ranges.second in
-    let j =
-    to_z-of_z w64 c.index_to-j.result (record { sfits = c.index_to-j.type_inv }) ∙ c.index_to-j.ensures
-    ∙ (λ t. cond (le_z (pos 2) (r t)) (v t) (pos 0)) in
-    let w = to_z-of_z w64 c.args.third c.ranges.third in
-    let k =
-    to_z-of_z w64 c.index_to-k.result (record { sfits = c.index_to-k.type_inv }) ∙ c.index_to-k.ensures
-    ∙ (λ t. cond (le_z (pos 3) (r t)) (w t) (pos 0)) in record {
+pub owned_on-requires : goal.owned_on-requires
+owned_on-requires c = known_by c.args.g c.args.sizes.first.now c.args.sizes.second.now c.args.sizes.third.now _ (sym c.in_ok-x.ensures)
+
+pub returns : goal.returns
+returns c =
+    let j = c.up_to.ensures ∙ ap (λ (r : ℤ). up_to r (pos 0) c.args.indices) (to_z-of_z w64 c.args.g.rank (search rules)) in record {
       result_value = c.owned_on.ensures.result_value
-          ∙ (λ t. ownership_on c.in-By.x c.args.b.now c.args.c.now c.args.d.now (i t) (j t) (k t))
-          ∙ ownership-by c.args.g c.args.b.now c.args.c.now c.args.d.now _ (sym c.ask_grid.ensures ∙ c.in-By.is)
-          (indices_from c.args.first c.args.second c.args.third);
+          ∙ ap (λ (j : Three ℤ). ownership_on c.in_ok-x.x c.args.sizes.first.now c.args.sizes.second.now c.args.sizes.third.now j.first j.second j.third) j
+          ∙ ownership-by c.args.g c.args.sizes.first.now c.args.sizes.second.now c.args.sizes.third.now _ (sym c.in_ok-x.ensures) c.args.indices;
       told_apart = c.owned_on.ensures.told_apart;
     }
-
-pub returns-in-Refused : goal.returns-in-Refused
-returns-in-Refused c = let r = sym c.ask_grid.ensures ∙ c.in-Refused.is in record { result_value = ownership-refused c.args.g c.args.b.now c.args.c.now c.args.d.now c.in-Refused.e r (indices_from c.args.first c.args.second c.args.third); told_apart = told-apart c.args.g c.args.b.now c.args.c.now c.args.d.now c.in-Refused.e r }

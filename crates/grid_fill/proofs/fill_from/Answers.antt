@@ -1,6 +1,7 @@
 -- `fill_from` meets its contract: the fill by rows is the one from its place.
 use mathlib.Core.Path.{sym, subst}
-use Rattle.grid_section.specs.declared.places.Shares.{Shares}
+use Rattle.model.specs.declared.three.Three.{Three}
+use Rattle.section.specs.declared.shares.Share.{Share}
 use Rattle.grid_fill.specs.Rows.{PlanOf}
 use Rattle.grid_fill.specs.Plans.{PlaceIn}
 use Rattle.grid_fill.proofs.fill_from.Goals as goal
@@ -16,7 +17,7 @@ stand_at-at-requires c =
     record {
       source = c.requires.source;
       planned = planned (goal.at.stand_at-at-requires c).After-plan_of-plan;
-      place = subst (λ (v : Shares). PlaceIn v c.args.s.place.0) (sym c.plan_of-plan.ensures.result_value) c.requires.place;
+      place = subst (λ (v : Three Share). PlaceIn v c.args.s.place.0) (sym c.plan_of-plan.ensures.result_value) c.requires.place;
     }
 
 pub fill_rows-requires : goal.fill_rows-requires

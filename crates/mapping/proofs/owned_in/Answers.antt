@@ -2,7 +2,6 @@
 use mathlib.Core.Path.{◌≡◌, sym, ap, ◌∙◌}
 use mathlib.Core.Bool.{true}
 use native.Mathlib.Omega.{arith}
-use borrow.Author.Tests.{not-true, not-false}
 use lib.IntN.{ℤ, pos, nat_abs, ◌+ℤ◌, ◌-ℤ◌}
 use mir.Syntax.{w64}
 use mir.Val.{SFits}
@@ -13,17 +12,8 @@ use Rattle.model.specs.Questions.{between}
 use Rattle.model.proofs.BoundLaws.{within-from}
 use Rattle.model.proofs.QuestionLaws.{Below, below-is}
 use Rattle.mapping.specs.Answers.{ownership_in}
-use mathlib.Core.Bool.{not}
 use Rattle.mapping.proofs.owned_in.Goals as goal
 use Rattle.mapping.proofs.owned_in.Goals.{After-natural, After-within, Else-not-within}
-
-pub overflow_cast-l : goal.overflow_cast-l
-overflow_cast-l c = small-fits w64 (pos c.args.l.size) (omega (arith, c.requires.ranged.0.size-high))
-
-pub last_of-last-requires : goal.last_of-last-requires
-last_of-last-requires c =
-    rw (to_z-of_z w64 c.args.lower c.ranges.lower, to_z_pos w64 c.args.l.size (omega (arith, c.requires.ranged.0.size-high)))
-    (c.requires.ranged.1, c.requires.ranged.0.size-high)
 
 -- the answer to question 9
 asked : (c : After-within) → c.within.result ≡ between c.args.lower (c.args.lower +ℤ pos c.args.l.size -ℤ pos 1) c.args.index
@@ -34,9 +24,10 @@ asked c =
     let r = to_z-of_z w64 c.last_of-last.result (record { sfits = c.last_of-last.type_inv }) ∙ c.last_of-last.ensures in
     c.within.ensures ∙ (λ i. between (l i) (r i) (j i)) ∙ (λ i. between c.args.lower (l i +ℤ n i -ℤ pos 1) c.args.index)
 
-pub returns-then-not-within : goal.returns-then-not-within
+pub returns-then-not-within-clause-result_value : goal.returns-then-not-within-clause-result_value
 unfolding ownership_in
-returns-then-not-within c = record { result_value = rw (sym (asked (goal.at.returns-then-not-within c).After-within) ∙ not-true _ (ap not c.if-not-within.true)); told_apart = (omega arith, tt) }
+returns-then-not-within-clause-result_value c =
+    rw (sym (asked (goal.at.returns-then-not-within-clause-result_value c).After-within) ∙ c.if-not-within.true)
 
 is-index : (c : Else-not-within) → between c.args.lower (c.args.lower +ℤ pos c.args.l.size -ℤ pos 1) c.args.index ≡ true
 is-index c =
@@ -44,7 +35,7 @@ is-index c =
     let l = to_z-of_z w64 c.args.lower c.ranges.lower in
     let n = to_z_pos w64 c.args.l.size (omega (arith, c.requires.ranged.0.size-high)) in
     let r = to_z-of_z w64 c.last_of-last.result (record { sfits = c.last_of-last.type_inv }) ∙ c.last_of-last.ensures in
-    c.within.ensures ∙ (λ i. between (l i) (r i) (j i)) ∙ (λ i. between c.args.lower (l i +ℤ n i -ℤ pos 1) c.args.index))) ∙ not-false _ (ap not c.if-not-within.false)
+    c.within.ensures ∙ (λ i. between (l i) (r i) (j i)) ∙ (λ i. between c.args.lower (l i +ℤ n i -ℤ pos 1) c.args.index))) ∙ c.if-not-within.false
 
 -- the index from 0
 abbrev from : (c : Else-not-within) → ℤ
@@ -77,14 +68,17 @@ counted c i =
     (λ i. to_z-of_z w64 c.args.index c.ranges.index i -ℤ to_z-of_z w64 c.args.lower c.ranges.lower i)
     (small-fits w64 (c.args.index -ℤ c.args.lower) (omega (arith, ap nat_abs i.whole, i.below, c.requires.ranged.0.size-high))))
 
-pub home_of-home-requires : goal.home_of-home-requires
-home_of-home-requires c = (
+pub home_of-requires : goal.home_of-requires
+home_of-requires c = (
   c.requires.listed,
   c.requires.ranged.0,
-  let i = inside (goal.at.home_of-home-requires c).Else-not-within in
-      omega (arith, counted (goal.at.home_of-home-requires c).After-natural i, i.below),
+  let i = inside (goal.at.home_of-requires c).Else-not-within in
+      omega (arith, counted (goal.at.home_of-requires c).After-natural i, i.below),
 )
 
-pub returns : goal.returns
+pub returns-clause-result_value : goal.returns-clause-result_value
 unfolding ownership_in
-returns c = record { result_value = rw (is-index (goal.at.returns c).Else-not-within) (cc (c.home_of-home.ensures.0, c.home_of-home.ensures.1, counted (goal.at.returns c).After-natural (inside (goal.at.returns c).Else-not-within))); told_apart = tt }
+returns-clause-result_value c =
+    let at = goal.at.returns-clause-result_value c in
+    let counts = counted at.After-natural (inside at.Else-not-within) in
+    rw (is-index at.Else-not-within) (cc (c.home_of.ensures.0, c.home_of.ensures.1, counts))

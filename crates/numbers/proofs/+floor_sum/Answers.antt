@@ -1,3 +1,4 @@
+-- `floor_sum` meets its contract: by the law of its step, which is on a smaller modulus, or of its end.
 use Rattle.std.proofs.Common.{arith}
 use Rattle.numbers.proofs.Depth.{depth_falls}
 use Rattle.numbers.proofs.SumLaws.{sum_fits, next_fits, sum_step, sum-ends}

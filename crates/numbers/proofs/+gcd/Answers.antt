@@ -1,3 +1,4 @@
+-- `gcd` meets its contract: by Euclid's step, which is on a smaller modulus.
 use Rattle.std.proofs.Common.{ℕ, arith, sym, ap, ◌∙◌}
 use native.Mathlib.Nat.{pos_of_ne-zero}
 use Rattle.numbers.specs.Gcd.{gcd}

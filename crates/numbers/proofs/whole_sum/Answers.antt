@@ -1,3 +1,4 @@
+-- `whole_sum` meets its contract: the product of a number and the one below it is twice a sum, and what is worked out fits.
 use Rattle.std.proofs.Common.{◌*◌, ◌/◌, ℕ, arith, ap}
 use Rattle.numbers.proofs.SumLaws.{tri-half, whole-fits}
 use Rattle.numbers.proofs.whole_sum.Goals as goal

@@ -3,8 +3,7 @@ use mathlib.Core.Path.{subst}
 use Rattle.fill.specs.declared.plan.Plan.TheVariants.{Constant, Learnt}
 use Rattle.fill.specs.declared.plan.Plan.{Plan}
 use Rattle.fill.specs.Starting.{Planned, InBlocks}
-use Rattle.fill.proofs.ReadyLaws.{elements-placed}
-use Rattle.fill.proofs.StartLaws.{constant-starts, learnt-starts, bytes-constant, bytes-learnt}
+use Rattle.fill.proofs.StartLaws.{constant-starts, learnt-begins, bytes-constant, bytes-learnt}
 use Rattle.fill.proofs.long.fill_part.Goals as goal
 use Rattle.fill.proofs.long.fill_part.Goals.{In-Constant, In-Learnt}
 
@@ -20,13 +19,7 @@ fill_bytes-requires c = constant-starts c.args.s c.requires.0 c.state_at-state.r
 
 pub fill_long_learning-requires : goal.fill_long_learning-requires
 fill_long_learning-requires c =
-    rw c.task_of.ensures (
-      (
-        elements-placed _ c.requires.0.started.section-bounded,
-        learnt-starts c.args.s c.requires.0 c.state_at-state.result c.state_at-state.ensures _ (learnt (goal.at.fill_long_learning-requires c).In-Learnt).1,
-      ),
-      ((learnt (goal.at.fill_long_learning-requires c).In-Learnt).1 c.requires.0.taken.source c.requires.0.taken.accepted c.requires.0.taken.same).3,
-    )
+    rw c.task_of.ensures (learnt-begins c.args.s c.requires.0 c.state_at-state.result c.state_at-state.ensures _ (learnt (goal.at.fill_long_learning-requires c).In-Learnt).1)
 
 pub returns-in-Constant : goal.returns-in-Constant
 returns-in-Constant c = bytes-constant c.args.s c.requires.0 c.state_at-state.result c.state_at-state.ensures _ _ _ c.fill_bytes.result (constant (goal.at.returns-in-Constant c).In-Constant).1 c.fill_bytes.ensures

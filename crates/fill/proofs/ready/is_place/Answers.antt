@@ -1,36 +1,56 @@
--- `is_place` meets its contract: each return cites the law of its answer.
-use mathlib.Core.Path.{◌≡◌, ap, ◌∙◌}
-use mathlib.Core.Bool.{true}
-use native.Mathlib.Omega.{arith}
-use lib.IntN.{pos}
+-- `is_place` meets its contract: its tests are those of question 10.
+use Prim.Native.Nat.{ℕ}
+use mathlib.Core.Path.{◌≡◌}
+use mathlib.Core.Bool.{true, ◌&&◌, ◌||◌}
+use borrow.Author.Tests.{eq-eqb, ne_eqb, lt-ltb, le-ltb}
+use lib.Dec.{ltb, eqb}
+use lib.IntN.{ℤ, pos}
 use lib.Signed.{le_z}
 use mir.Syntax.{w64}
 use mir.ValLaws.{to_z-of_z}
-use Rattle.numbers.proofs.Signed.{read_of, fails-le}
+use Rattle.numbers.proofs.Signed.{read_of}
 use Rattle.model.specs.Ownership.{nat}
+use Rattle.section.specs.declared.shares.Share.{Share}
 use Rattle.section.specs.Shares.{owned_by}
-use Rattle.fill.proofs.ReadyLaws.{negative-no, count_yes, past-no, position-owned}
+use Rattle.fill.specs.Ready.{is_place_in}
 use Rattle.fill.proofs.ready.is_place.Goals as goal
-use Rattle.fill.proofs.ready.is_place.Goals.{After-natural}
+use Rattle.fill.proofs.ready.is_place.Goals.{After-natural-t}
 
-pub returns-then-place-lt0 : goal.returns-then-place-lt0
-returns-then-place-lt0 c = negative-no c.args.s c.args.place (rw (to_z-of_z w64 c.args.place c.ranges.place) at c.if-place-lt0.true)
+-- of a number from 0 on
+from_zero : (s : Share) (p : ℤ) (t : ℕ) → le_z (pos 0) p ≡ true → t ≡ nat p
+    → is_place_in s p ≡ (eqb t s.section.count || (ltb t s.section.count && owned_by s t))
+unfolding is_place_in
+from_zero s p t h e = rw (h, e)
 
-is-natural : (c : After-natural) → le_z (pos 0) c.args.place ≡ true
-is-natural c =
-    fails-le c.args.place (pos 0) (rw (to_z-of_z w64 c.args.place c.ranges.place) at c.if-place-lt0.false)
-
-position : (c : After-natural) → c.natural.result ≡ nat c.args.place
-position c =
-    read_of w64 nat c.args.place c.ranges.place c.natural.ensures
+position : (c : After-natural-t) → c.natural-t.result ≡ nat c.args.place
+position c = read_of w64 nat c.args.place c.ranges.place c.natural-t.ensures
 
 pub returns-then-t-count : goal.returns-then-t-count
-returns-then-t-count c = count_yes c.args.s c.args.place (is-natural (goal.at.returns-then-t-count c).After-natural) (omega (arith, position (goal.at.returns-then-t-count c).After-natural))
+returns-then-t-count c =
+    let h = rw (to_z-of_z w64 c.args.place c.ranges.place) at c.if-place-ge0.true in
+    rw (from_zero c.args.s c.args.place c.natural-t.result h (position (goal.at.returns-then-t-count c).After-natural-t), eq-eqb c.natural-t.result c.args.s.section.count c.if-t-count.true)
 
-pub returns-then-count-t : goal.returns-then-count-t
-returns-then-count-t c = past-no c.args.s c.args.place (is-natural (goal.at.returns-then-count-t c).After-natural) (omega (arith, position (goal.at.returns-then-count-t c).After-natural))
+pub returns-then-t-count-2 : goal.returns-then-t-count-2
+returns-then-t-count-2 c =
+    let h = rw (to_z-of_z w64 c.args.place c.ranges.place) at c.if-place-ge0.true in
+    rw (
+      from_zero c.args.s c.args.place c.natural-t.result h (position (goal.at.returns-then-t-count-2 c).After-natural-t),
+      ne_eqb c.natural-t.result c.args.s.section.count c.if-t-count.false,
+      lt-ltb c.natural-t.result c.args.s.section.count c.if-t-count-2.true,
+    )
+    c.owns_at.ensures
 
-pub returns : goal.returns
-returns c =
-    c.owns_at.ensures ∙ ap (owned_by c.args.s) (position (goal.at.returns c).After-natural)
-    ∙ position-owned c.args.s c.args.place (is-natural (goal.at.returns c).After-natural) (omega (arith, position (goal.at.returns c).After-natural))
+pub returns-else-t-count-2 : goal.returns-else-t-count-2
+returns-else-t-count-2 c =
+    let h = rw (to_z-of_z w64 c.args.place c.ranges.place) at c.if-place-ge0.true in
+    rw (
+      from_zero c.args.s c.args.place c.natural-t.result h (position (goal.at.returns-else-t-count-2 c).After-natural-t),
+      ne_eqb c.natural-t.result c.args.s.section.count c.if-t-count.false,
+      le-ltb c.natural-t.result c.args.s.section.count c.if-t-count-2.false,
+    )
+
+pub returns-else-place-ge0 : goal.returns-else-place-ge0
+unfolding is_place_in
+returns-else-place-ge0 c =
+    let h = rw (to_z-of_z w64 c.args.place c.ranges.place) at c.if-place-ge0.false in
+    rw (to_z-of_z w64 c.args.place c.ranges.place, h)

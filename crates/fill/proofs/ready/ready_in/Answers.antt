@@ -1,20 +1,20 @@
 -- `ready_in` meets its contract: each return rewrites by the answers on the way to it.
 use mathlib.Core.Path.{◌≡◌, sym, ap, ◌∙◌, subst}
-use mathlib.Core.Bool.{Bool, true, not}
+use mathlib.Core.Bool.{Bool, true}
 use lib.IntN.{ℤ, pos}
 use mir.Syntax.{w64}
 use mir.Val.{SFits}
+use Rattle.std.specs.Prelude.{Ok}
 use Rattle.numbers.proofs.Signed.{back, read_of}
 use Rattle.model.specs.Mappings.{Dealing, dealing_with}
 use Rattle.model.specs.Ownership.{nat}
 use Rattle.model.specs.Questions.{first_no, between, is_below}
 use Rattle.model.proofs.QuestionLaws.{below-is}
-use Rattle.mapping.proofs.Signs.{said-no, said-yes}
+use Rattle.mapping.proofs.Signs.{answered}
 use Rattle.mapping.specs.Parts.{part_in}
 use Rattle.section.specs.declared.questions.Strided.{Strided}
 use Rattle.section.specs.declared.shares.Share.{Share}
 use Rattle.section.specs.Shares.{share_in, Fitted}
-use Rattle.fill.specs.declared.ready.Ready.TheVariants.{Go}
 use Rattle.fill.specs.Ready.{is_place_in, ready_in, SoundReady}
 use Rattle.fill.proofs.ReadyLaws.{ready-sound}
 use Rattle.fill.proofs.ready.ready_in.Goals as goal
@@ -23,11 +23,11 @@ use Rattle.fill.proofs.ready.ready_in.Goals.{After-share_of-share, Else-not-is_p
 pub returns-then-not-is_processor-clause-value : goal.returns-then-not-is_processor-clause-value
 unfolding ready_in first_no
 returns-then-not-is_processor-clause-value c =
-    rw (said-no (is_below (pos c.args.w.layout.processors)) c.args.processor c.ranges.processor c.is_processor.ensures (ap not c.if-not-is_processor.true))
+    rw (answered (is_below (pos c.args.w.layout.processors)) c.args.processor c.ranges.processor c.is_processor.ensures c.if-not-is_processor.true)
 
 eighth : (c : Else-not-is_processor) → is_below (pos c.args.w.layout.processors) c.args.processor ≡ true
 eighth c =
-    said-yes (is_below (pos c.args.w.layout.processors)) c.args.processor c.ranges.processor c.is_processor.ensures (ap not c.if-not-is_processor.false)
+    answered (is_below (pos c.args.w.layout.processors)) c.args.processor c.ranges.processor c.is_processor.ensures c.if-not-is_processor.false
 
 -- the share, of the parameters
 abbrev share_for : Strided → Dealing → ℤ → Share
@@ -64,7 +64,7 @@ returns-then-not-within-clause-value c =
     rw (
       eighth (goal.at.returns-then-not-within-clause-value c).Else-not-is_processor,
       tenth (goal.at.returns-then-not-within-clause-value c).Else-not-is_place,
-      said-no (between (pos 3) (pos 1000000)) c.args.quota c.ranges.quota c.within.ensures (ap not c.if-not-within.true),
+      answered (between (pos 3) (pos 1000000)) c.args.quota c.ranges.quota c.within.ensures c.if-not-within.true,
     )
 
 pub returns : goal.returns
@@ -73,11 +73,11 @@ returns c =
     let place = read_of w64 nat c.args.place c.ranges.place c.natural.ensures in
     let quota = read_of w64 nat c.args.quota c.ranges.quota c.natural-2.ensures in
     let share = share-is (goal.at.returns c).After-share_of-share in
-    let value : Go (record { section = c.args.w; processor = c.share_of-share.result.processor; extent = c.share_of-share.result.extent; place = record { 0 = c.natural.result }; quota = c.natural-2.result })
+    let value : Ok (record { section = c.args.w; processor = c.share_of-share.result.processor; extent = c.share_of-share.result.extent; place = record { 0 = c.natural.result }; quota = c.natural-2.result })
     ≡ ready_in c.args.w (dealing_with c.args.d c.args.sizes.now) c.args.processor c.args.place c.args.quota = rw (
       eighth (goal.at.returns c).Else-not-is_processor,
       tenth (goal.at.returns c).Else-not-is_place,
-      said-yes (between (pos 3) (pos 1000000)) c.args.quota c.ranges.quota c.within.ensures (ap not c.if-not-within.false),
+      answered (between (pos 3) (pos 1000000)) c.args.quota c.ranges.quota c.within.ensures c.if-not-within.false,
     )
-    (λ i. Go (record { section = c.args.w; processor = (share i).processor; extent = (share i).extent; place = record { 0 = place i }; quota = quota i })) in
+    (λ i. Ok (record { section = c.args.w; processor = (share i).processor; extent = (share i).extent; place = record { 0 = place i }; quota = quota i })) in
     record { value = value; sound_ready = subst SoundReady (sym value) (ready-sound c.args.w c.requires.0 (dealing_with c.args.d c.args.sizes.now) c.args.processor c.args.place c.args.quota) }

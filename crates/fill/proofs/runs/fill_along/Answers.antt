@@ -10,9 +10,8 @@ use lib.ListN.{length}
 use Rattle.model.specs.ByteFills.{store_entries}
 use Rattle.section.specs.Shares.{off_base}
 use Rattle.section.proofs.StridedLaws.{index-inside}
-use Rattle.fill.specs.RunFills.{addresses_from, fewest, entries_in}
+use Rattle.fill.specs.RunFills.{addresses_from, entries_in}
 use Rattle.fill.specs.Ready.{FillsBytesFrom}
-use Rattle.fill.proofs.RunFillLaws.{fewest-le}
 use Rattle.fill.proofs.SmallMoves.{onward-low}
 use Rattle.fill.proofs.DealtFills.{room, of-run}
 use Rattle.fill.proofs.runs.fill_along.Goals as goal
@@ -35,11 +34,7 @@ low c =
     omega (arith, c.index_at.ensures, index-inside c.args.s.section c.requires.accepted.started.section-bounded c.args.s.place.0 c.requires.below, c.requires.accepted.started.section-bounded.sized.size-high)
 
 inside : (c : After-onward_by) → (c.entries_in-n.result ≤ length c.args.list.now / 4) × (c.args.s.place.0 + c.entries_in-n.result ≤ c.args.r.high.0)
-inside c =
-    let h = c.args.r.high.0 - c.args.s.place.0 in
-    let a = fewest-le (fewest h (c.args.s.quota - 2)) (length c.args.list.now / 4) in
-    let b = fewest-le h (c.args.s.quota - 2) in
-    (omega (arith, (written c), a.1), omega (arith, (written c), a.0, b.0, (room c.args.s c.args.r c.requires).0))
+inside c = (omega (arith, (written c)), omega (arith, (written c), (room c.args.s c.args.r c.requires).0))
 
 pub put_run-requires : goal.put_run-requires
 put_run-requires c = ((inside (goal.at.put_run-requires c).After-onward_by).0, omega (arith, low (goal.at.put_run-requires c).After-onward_by), omega (arith, c.onward_by.ensures, onward-low c.args.s.section.upward c.args.s.section.stride))

@@ -1,16 +1,10 @@
--- `put_run` meets its contract. The invariant: storing what is left into the list as it is comes to the same. The measure: the
--- entries that are left.
-use Prim.Native.Nat.{◌-◌, ◌≤◌, ◌<◌}
+-- `put_run` meets its contract. The invariant: storing what is left into the list as it is comes to the same.
+use Prim.Native.Nat.{◌-◌, ◌<◌}
 use mathlib.Core.Path.{◌≡◌}
-use lib.ListN.{length}
 use Rattle.model.specs.ByteFills.{store_entries}
 use Rattle.fill.specs.RunFills.{addresses_from}
 use Rattle.fill.proofs.runs.put_run.Given as goal
 
 abbrev pub invariant-loop-i : goal.invariant-loop-i
 invariant-loop-i l =
-    (l.i ≤ l.n) × (l.x < 4294967296) × (length l.list ≡ length l.initial.list)
-    × (store_entries l.list l.i (addresses_from (l.n - l.i) l.x l.add) ≡ store_entries l.initial.list 0 (addresses_from l.n l.initial.x l.add))
-
-abbrev pub decreases-loop-i : goal.decreases-loop-i
-decreases-loop-i l = l.n - l.i
+    (l.x < 4294967296) × (store_entries l.list l.i (addresses_from (l.n - l.i) l.x l.add) ≡ store_entries l.initial.list 0 (addresses_from l.n l.initial.x l.add))

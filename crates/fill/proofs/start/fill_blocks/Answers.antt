@@ -2,8 +2,7 @@
 use mathlib.Core.Path.{subst}
 use Rattle.fill.specs.declared.plan.Plan.TheVariants.{Constant, Learnt}
 use Rattle.fill.specs.Starting.{Planned}
-use Rattle.fill.proofs.ReadyLaws.{elements-placed}
-use Rattle.fill.proofs.StartLaws.{constant-starts, learnt-starts, bytes-constant, bytes-learnt}
+use Rattle.fill.proofs.StartLaws.{constant-starts, learnt-begins, bytes-constant, bytes-learnt}
 use Rattle.fill.proofs.start.fill_blocks.Goals as goal
 use Rattle.fill.proofs.start.fill_blocks.Goals.{In-Constant, In-Learnt}
 
@@ -19,13 +18,7 @@ fill_bytes-requires c = constant-starts c.args.s c.requires c.state_at-state.res
 
 pub fill_bytes_learning-requires : goal.fill_bytes_learning-requires
 fill_bytes_learning-requires c =
-    rw c.task_of.ensures (
-      (
-        elements-placed _ c.requires.started.section-bounded,
-        learnt-starts c.args.s c.requires c.state_at-state.result c.state_at-state.ensures _ (learnt (goal.at.fill_bytes_learning-requires c).In-Learnt),
-      ),
-      (learnt (goal.at.fill_bytes_learning-requires c).In-Learnt c.requires.taken.source c.requires.taken.accepted c.requires.taken.same).3,
-    )
+    rw c.task_of.ensures (learnt-begins c.args.s c.requires c.state_at-state.result c.state_at-state.ensures _ (learnt (goal.at.fill_bytes_learning-requires c).In-Learnt))
 
 pub returns-in-Constant : goal.returns-in-Constant
 returns-in-Constant c = bytes-constant c.args.s c.requires c.state_at-state.result c.state_at-state.ensures _ _ _ c.fill_bytes.result (constant (goal.at.returns-in-Constant c).In-Constant) c.fill_bytes.ensures

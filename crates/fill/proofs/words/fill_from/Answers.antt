@@ -21,7 +21,7 @@ loop-n-smaller c =
     omega (
       arith,
       (after (goal.at.loop-n-smaller c).After-fill_chunk-r).1,
-      chunk-some c.requires c.loop-n.invariant (c.chunk_end-end.result - c.loop-n.n) c.fill_chunk-r.ensures c.if-place-w.false
+      chunk-some c.requires c.loop-n.invariant (c.chunk_end-end.result - c.loop-n.n) c.fill_chunk-r.ensures c.if-place-s.false
           c.if-s-paid-lt-LEAST_TRIES.false (simp (length-take, length-drop) (omega (arith, c.chunk_end-end.ensures))),
     )
 
@@ -31,8 +31,8 @@ loop-n-preserved c = chunk-on c.requires c.loop-n.invariant (c.chunk_end-end.res
 pub returns-after-loop-n : goal.returns-after-loop-n
 returns-after-loop-n c = chunks-full c.requires c.loop-n.invariant c.loop-n-test.false
 
-pub returns-then-place-w : goal.returns-then-place-w
-returns-then-place-w c = chunks-count c.requires c.loop-n.invariant c.if-place-w.true
+pub returns-then-place-s : goal.returns-then-place-s
+returns-then-place-s c = chunks-count c.requires c.loop-n.invariant c.if-place-s.true
 
 pub returns-then-s-paid-lt-LEAST_TRIES : goal.returns-then-s-paid-lt-LEAST_TRIES
 returns-then-s-paid-lt-LEAST_TRIES c = chunks-quota c.requires c.loop-n.invariant c.if-s-paid-lt-LEAST_TRIES.true

@@ -4,9 +4,8 @@ use mathlib.Core.Path.{◌≡◌, sym}
 use mathlib.Core.List.{List, ◌++◌}
 use native.Mathlib.Numerals.{add-one}
 use native.Mathlib.Omega.{arith}
-use lib.ListN.{length, get_or, take, drop, set, length-set}
+use lib.ListN.{length, get_or, take, drop, set}
 use lib.Seq.{drop-cons, length-take-le, set_at, take-suc, append_snoc}
-use borrow.Author.Rules.{rules}
 use Rattle.numbers.specs.Words.{words_of}
 use Rattle.numbers.proofs.WordLaws.{words-length}
 use Rattle.fill.proofs.words.put_words.Goals as goal
@@ -18,8 +17,5 @@ more ws l i h k =
     (sym (append_snoc (take i ws) (get_or ws i 0) (drop (suc i) l)))
 
 pub loop-i-preserved : goal.loop-i-preserved
-loop-i-preserved c = (
-  search rules,
-  simp length-set c.loop-i.invariant.1,
-  rw (c.loop-i.invariant.2, c.word_at.ensures) (more (words_of 4 c.args.bytes.now) c.args.list.now c.loop-i.i (omega (arith, words-length 4 c.args.bytes.now)) (omega arith)),
-)
+loop-i-preserved c =
+    rw (c.loop-i.invariant, c.word_at.ensures) (more (words_of 4 c.args.bytes.now) c.args.list.now c.loop-i.i (omega (arith, words-length 4 c.args.bytes.now)) (omega arith))

@@ -3,7 +3,7 @@
 use Prim.Native.Nat.{ℕ, ◌+◌, ◌-◌, ◌≤◌, ◌<◌}
 use mathlib.Core.Path.{◌≡◌}
 use mathlib.Core.List.{List}
-use lib.ListN.{length, get_or, take, drop}
+use lib.ListN.{get_or, take, drop}
 use Rattle.numbers.specs.Words.{words_of}
 use Rattle.model.specs.ByteFills.{store_entries}
 use Rattle.grid_fill.specs.Entries.{higher}
@@ -15,9 +15,5 @@ left l₀ from n add i = higher add (take (n - i) (drop (from + i) (words_of 4 l
 
 abbrev pub invariant-loop-i : goal.invariant-loop-i
 invariant-loop-i l =
-    (l.i ≤ l.n) × (length l.list ≡ length l.initial.list)
-    × (store_entries l.list (l.to + l.i) (left l.initial.list l.from l.n l.add l.i) ≡ store_entries l.initial.list l.to (left l.initial.list l.from l.n l.add 0))
+    (store_entries l.list (l.to + l.i) (left l.initial.list l.from l.n l.add l.i) ≡ store_entries l.initial.list l.to (left l.initial.list l.from l.n l.add 0))
     × ((j : ℕ) → l.i ≤ j → j < l.n → get_or (words_of 4 l.list) (l.from + j) 0 ≡ get_or (words_of 4 l.initial.list) (l.from + j) 0)
-
-abbrev pub decreases-loop-i : goal.decreases-loop-i
-decreases-loop-i l = l.n - l.i

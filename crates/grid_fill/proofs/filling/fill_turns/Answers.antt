@@ -10,7 +10,7 @@ use Rattle.grid_fill.proofs.filling.fill_turns.Goals as goal
 use Rattle.grid_fill.proofs.filling.fill_turns.Goals.{After-next_turn-t, Else-quota-paid-lt-LEAST_TRIES}
 
 pub loop-n-init : goal.loop-n-init
-loop-n-init c = (omega arith, refl, omega arith, λ x o st. filling-starts x c.args.p o c.args.start c.args.quota c.args.list.now st _ refl)
+loop-n-init c = (omega arith, refl, omega arith, λ x o st. filling-starts x c.args.p o c.args.start c.args.quota c.args.list.now st)
 
 pub overflow_sub-quota : goal.overflow_sub-quota
 overflow_sub-quota c = c.loop-n.invariant.2

@@ -4,7 +4,6 @@ use native.Mathlib.Omega.{arith}
 use Rattle.model.proofs.PairLaws.{first-lt, second_lt}
 use Rattle.grid_section.specs.Shares.{positions_in}
 use Rattle.grid_fill.specs.declared.rows.RowPlan.{RowPlan}
-use Rattle.grid_fill.specs.Plans.{shares_from}
 use Rattle.grid_fill.proofs.PlanLaws.{counts-low, stands-inside, stands-end}
 use Rattle.grid_fill.proofs.plans.stand_at.Goals as goal
 use Rattle.grid_fill.proofs.plans.stand_at.Goals.{Then-place-product_of}
@@ -23,13 +22,13 @@ t c =
 
 abbrev m : (c : Then-place-product_of) → ℕ
 m c =
-    (p c).first.section.count
+    (p c).shares.first.section.count
 
 abbrev n : (c : Then-place-product_of) → ℕ
 n c =
-    (p c).second.section.count
+    (p c).shares.second.section.count
 
-inside : (c : Then-place-product_of) → (t c) < positions_in (shares_from (p c))
+inside : (c : Then-place-product_of) → (t c) < positions_in ((p c).shares)
 inside c =
     omega (arith, c.if-place-product_of.true, c.product_of.ensures)
 

@@ -5,6 +5,7 @@ use mathlib.Core.List.{List}
 use native.Mathlib.Nat.{mul-le-mul_right}
 use native.Mathlib.Omega.{arith}
 use lib.ListN.{length}
+use Rattle.std.specs.Prelude.{Some}
 use Rattle.model.specs.Grids.{sections_of}
 use Rattle.model.proofs.GridAccepted.{third-yes}
 use Rattle.grid_fill.specs.declared.turns.Turn.{Turn}
@@ -63,7 +64,7 @@ put_rows-requires c =
       listed = rw (rows_long x c.args.p o c.args.at b.stands v c.args.plane c.requires.begun.1 _ _ _ c.addresses_from-r.ensures) (few (goal.at.put_rows-requires c).After-addresses_from-r);
       room = (bounds (goal.at.put_rows-requires c).After-addresses_from-r).2;
       few-rows = o.few;
-      plane-low = step-low (sections_of x).third (third-yes x o.accepted) c.args.p.third o.third c.args.at.third.0 (b.stands.third v) c.args.plane c.requires.begun.1;
+      plane-low = step-low (sections_of x).third (third-yes x o.accepted) c.args.p.shares.third o.third c.args.at.third.0 (b.stands.third v) c.args.plane c.requires.begun.1;
       low = λ j h.
           let on = row_on x c.args.p o c.args.at b.stands v c.args.plane c.requires.begun.1 _ _ _ c.addresses_from-r.ensures j h in
           omega (
@@ -85,7 +86,7 @@ returns c x o st known quota fits =
     let v = going-in b x o in
     let in-planes = (c.requires.begun.1 (sections_of x).third (third-yes x o.accepted) o.third.share).1 in
     let place = row-place x c.args.p o c.args.at st v c.args.plane c.requires.begun.1 _ _ _ c.addresses_from-r.ensures in
-    let turn : Turn = record { stand = c.entering.result; whole = c.args.w; entries = count (goal.at.returns c).After-addresses_from-r * c.args.w.entries; tries = count (goal.at.returns c).After-addresses_from-r * c.args.w.tries } in
+    let turn : Turn = record { stand = c.entering.result; whole = Some c.args.w; entries = count (goal.at.returns c).After-addresses_from-r * c.args.w.entries; tries = count (goal.at.returns c).After-addresses_from-r * c.args.w.tries } in
     subst (λ (l : List ℕ). Turned x c.args.p c.args.at quota c.args.n c.args.list.now l turn) (sym c.put_rows.ensures)
     (after-turned x c.args.p o c.args.at st v (copying (goal.at.returns c).After-addresses_from-r).enters c.args.plane.next.0 in-planes c.args.list.now c.args.n c.args.w known quota (count (goal.at.returns c).After-addresses_from-r)
     (omega (arith, fits, mul-le-mul_right c.args.w.tries (few (goal.at.returns c).After-addresses_from-r))) (bounds (goal.at.returns c).After-addresses_from-r).2 (base_at c.args.p.elements c.args.p.rows c.args.plane.address.0 (listed (goal.at.returns c).After-addresses_from-r))

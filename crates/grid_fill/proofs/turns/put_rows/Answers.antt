@@ -8,7 +8,6 @@ use native.Mathlib.Omega.{arith}
 use lib.ListN.{length, take, drop}
 use Rattle.numbers.specs.Words.{words_of}
 use Rattle.model.specs.ByteFills.{store_entries}
-use Rattle.model.proofs.ByteStores.{stores-length}
 use Rattle.grid_fill.specs.Entries.{higher}
 use Rattle.grid_fill.specs.Turns.{base_at, put_rows}
 use Rattle.grid_fill.proofs.TurnLaws.{small_product}
@@ -17,14 +16,14 @@ use Rattle.grid_fill.proofs.turns.put_rows.Goals.{After-word_at, In-loop-j}
 
 pub loop-j-init : goal.loop-j-init
 unfolding put_rows
-loop-j-init c = (omega arith, refl, refl)
+loop-j-init c = refl
 
 -- ---- before a turn
 -- there is room for one row more
 room : (c : In-loop-j) → c.args.n + c.loop-j.j * c.args.w.entries + c.args.w.entries ≤ length c.loop-j.list / 4
 room c =
     let more : suc c.loop-j.j * c.args.w.entries ≤ c.args.count * c.args.w.entries = mul-le-mul_right c.args.w.entries c.loop-j-test.true in
-    rw c.loop-j.invariant.1 (omega (arith, more, suc-mul c.loop-j.j c.args.w.entries, c.requires.room))
+    rw c.loop-j.auto.list (omega (arith, more, suc-mul c.loop-j.j c.args.w.entries, c.requires.room))
 
 pub word_at-requires : goal.word_at-requires
 word_at-requires c = omega (arith, c.loop-j-test.true, c.requires.listed)
@@ -62,35 +61,23 @@ pub overflow_add-add : goal.overflow_add-add
 overflow_add-add c = omega (arith, c.requires.base, low (goal.at.overflow_add-add c).After-word_at)
 
 pub overflow_mul-j : goal.overflow_mul-j
-overflow_mul-j c = omega (arith, room (goal.at.overflow_mul-j c).In-loop-j, c.loop-j.invariant.1)
+overflow_mul-j c = omega (arith, room (goal.at.overflow_mul-j c).In-loop-j, c.loop-j.auto.list)
 
 pub overflow_add-n : goal.overflow_add-n
-overflow_add-n c = omega (arith, room (goal.at.overflow_add-n c).In-loop-j, c.loop-j.invariant.1)
+overflow_add-n c = omega (arith, room (goal.at.overflow_add-n c).In-loop-j, c.loop-j.auto.list)
 
 pub put_higher-requires : goal.put_higher-requires
 put_higher-requires c = (omega (arith, room (goal.at.put_higher-requires c).In-loop-j), inr (omega (arith, c.requires.before)), mod-lt _ (omega arith))
 
-pub overflow_add-j : goal.overflow_add-j
-overflow_add-j c = omega (arith, c.loop-j-test.true, c.ranges.count)
-
-pub loop-j-smaller : goal.loop-j-smaller
-loop-j-smaller c = omega (arith, c.loop-j-test.true)
-
 pub loop-j-preserved : goal.loop-j-preserved
 unfolding put_rows
 loop-j-preserved c =
-    let bases = base_at c.args.elements c.args.rows c.args.plane.0 c.args.addresses.now in (
-      omega (arith, c.loop-j-test.true),
-      ap length c.put_higher.ensures ∙ stores-length c.loop-j.list _ _ ∙ c.loop-j.invariant.1,
-      c.put_higher.ensures
-          ∙ (λ k. store_entries (c.loop-j.invariant.2 k) (c.args.n + c.loop-j.j * c.args.w.entries) (higher ((is (goal.at.loop-j-preserved c).After-word_at k + (4294967296 - c.args.w.base)) % 4294967296) (take c.args.w.entries (drop c.args.w.from (words_of 4 (c.loop-j.invariant.2 k))))))
-          ∙ ap (put_rows bases c.args.w c.args.list.now c.args.n) (sym (add-one c.loop-j.j)),
-    )
-
-pub shape_of-list : goal.shape_of-list
-shape_of-list c = c.loop-j.invariant.1
+    let bases = base_at c.args.elements c.args.rows c.args.plane.0 c.args.addresses.now in
+    c.put_higher.ensures
+    ∙ (λ k. store_entries (c.loop-j.invariant k) (c.args.n + c.loop-j.j * c.args.w.entries) (higher ((is (goal.at.loop-j-preserved c).After-word_at k + (4294967296 - c.args.w.base)) % 4294967296) (take c.args.w.entries (drop c.args.w.from (words_of 4 (c.loop-j.invariant k))))))
+    ∙ ap (put_rows bases c.args.w c.args.list.now c.args.n) (sym (add-one c.loop-j.j))
 
 pub returns : goal.returns
 returns c =
-    let e : c.loop-j.j ≡ c.args.count = omega (arith, c.loop-j-test.false, c.loop-j.invariant.0) in
-    rw (← e) c.loop-j.invariant.2
+    let e : c.loop-j.j ≡ c.args.count = omega (arith, c.loop-j-test.false) in
+    rw (← e) c.loop-j.invariant

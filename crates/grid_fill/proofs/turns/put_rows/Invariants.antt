@@ -1,12 +1,7 @@
 -- `put_rows` meets its contract.
-use Prim.Native.Nat.{◌-◌, ◌≤◌}
 use mathlib.Core.Path.{◌≡◌}
-use lib.ListN.{length}
 use Rattle.grid_fill.specs.Turns.{base_at, put_rows}
 use Rattle.grid_fill.proofs.turns.put_rows.Given as goal
 
 abbrev pub invariant-loop-j : goal.invariant-loop-j
-invariant-loop-j l = (l.j ≤ l.count) × (length l.list ≡ length l.initial.list) × (l.list ≡ put_rows (base_at l.elements l.rows l.plane.0 l.addresses) l.w l.initial.list l.n l.j)
-
-abbrev pub decreases-loop-j : goal.decreases-loop-j
-decreases-loop-j l = l.count - l.j
+invariant-loop-j l = l.list ≡ put_rows (base_at l.elements l.rows l.plane.0 l.addresses) l.w l.initial.list l.n l.j

@@ -43,8 +43,8 @@ addresses c =
     let b = (begun c) in
     let x = b.source in
     let o = b.planned in (
-      step-low (sections_of x).second (second-yes x o.accepted) c.args.p.second o.second c.args.at.second.0 (b.stands.second (going-in b x o)) c.step_from-row.result c.step_from-row.ensures,
-      step-low (sections_of x).third (third-yes x o.accepted) c.args.p.third o.third c.args.at.third.0 (b.stands.third (going-in b x o)) c.args.plane c.requires.1,
+      step-low (sections_of x).second (second-yes x o.accepted) c.args.p.shares.second o.second c.args.at.second.0 (b.stands.second (going-in b x o)) c.step_from-row.result c.step_from-row.ensures,
+      step-low (sections_of x).third (third-yes x o.accepted) c.args.p.shares.third o.third c.args.at.third.0 (b.stands.third (going-in b x o)) c.args.plane c.requires.1,
     )
 
 product : (c : After-step_from-row) → c.args.p.rows * c.args.plane.address.0 ≤ 4611686014132420609

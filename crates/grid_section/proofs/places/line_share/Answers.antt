@@ -1,5 +1,5 @@
 -- `line_share` meets its contract: the processor is passed on as the number it is.
-use mathlib.Core.Path.{◌≡◌, ap, ◌∙◌}
+use mathlib.Core.Path.{◌≡◌, ◌∙◌}
 use native.Mathlib.Omega.{arith}
 use lib.IntN.{pos}
 use mir.Syntax.{w64}
@@ -8,8 +8,6 @@ use mir.ValLaws.{to_z-of_z}
 use Rattle.numbers.proofs.Signed.{small-fits}
 use Rattle.model.specs.Mappings.{dealing_with}
 use Rattle.model.specs.Ownership.{nat}
-use Rattle.model.specs.Questions.{is_below}
-use Rattle.model.proofs.QuestionLaws.{is_below_lem}
 use Rattle.mapping.specs.Parts.{part_in}
 use Rattle.section.specs.Shares.{share_in}
 use Rattle.grid_section.proofs.places.line_share.Goals as goal
@@ -17,12 +15,6 @@ use Rattle.grid_section.proofs.places.line_share.Goals.{Start}
 
 read : (c : Start) → to_z w64 c.args.processor ≡ pos c.args.processor
 read c = to_z-of_z w64 (pos c.args.processor) (small-fits w64 _ (omega (arith, c.requires.2, c.requires.0.sized.processors-high)))
-
-pub share_of-requires : goal.share_of-requires
-unfolding nat
-share_of-requires c =
-    let p = pos c.args.x.section.layout.processors in
-    (c.requires.0, c.requires.1, ap (is_below p) (read (goal.at.share_of-requires c).Start) ∙ is_below_lem c.args.processor p c.requires.2)
 
 pub returns : goal.returns
 unfolding nat

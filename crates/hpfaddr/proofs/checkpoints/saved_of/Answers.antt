@@ -1,13 +1,11 @@
--- `saved_of` meets its contract: what `save` answers and writes, and its numbers fit the fields.
-use mathlib.Core.Path.{◌∙◌}
+-- `saved_of` meets its contract: the numbers that `save` answers fit the fields.
+use mathlib.Core.Path.{sym, ◌∙◌, subst}
 use Rattle.hpfaddr.specs.Sizes.{CopiedFits}
-use Rattle.hpfaddr.proofs.AnswerSizes.{with_size, copying-small}
+use Rattle.hpfaddr.proofs.AnswerSizes.{copying-small}
 use Rattle.hpfaddr.proofs.checkpoints.saved_of.Goals as goal
 
 pub fields_of-requires : goal.fields_of-requires
-fields_of-requires c = (with_size CopiedFits c.save.ensures.result_value (copying-small _)).1
+fields_of-requires c = subst CopiedFits (sym c.save.ensures.result_value) (copying-small _)
 
-pub returns : goal.returns
-returns c =
-    let a = with_size CopiedFits (c.fields_of.ensures ∙ c.save.ensures.result_value) (copying-small _) in
-    record { checkpoint_fields = (a.0, c.save.ensures.storage_value, c.save.ensures.words_after); copied_fits = a.1 }
+pub returns-clause-copied_fits : goal.returns-clause-copied_fits
+returns-clause-copied_fits c = subst CopiedFits (sym (c.fields_of.ensures ∙ c.save.ensures.result_value)) (copying-small _)

@@ -9,29 +9,5 @@ use Rattle.mapping.proofs.dealing.element_by_halving.Goals as goal
 pub loop-low-init : goal.loop-low-init
 loop-low-init c = omega (arith, held_none (owner_of c.args.l) c.args.q, held-le (owner_of c.args.l) c.args.q c.args.l.size)
 
-pub overflow_add-low : goal.overflow_add-low
-overflow_add-low c = omega arith
-
-pub overflow_sub-middle : goal.overflow_sub-middle
-overflow_sub-middle c = omega arith
-
-pub overflow_add-middle : goal.overflow_add-middle
-overflow_add-middle c = omega arith
-
-pub held_below-requires : goal.held_below-requires
-held_below-requires c = record { dealt = c.requires.dealt; index = omega arith }
-
-pub loop-low-smaller-then-held_below-x : goal.loop-low-smaller-then-held_below-x
-loop-low-smaller-then-held_below-x c = omega arith
-
-pub loop-low-preserved-then-held_below-x : goal.loop-low-preserved-then-held_below-x
-loop-low-preserved-then-held_below-x c = omega (arith, c.held_below.ensures)
-
-pub loop-low-smaller : goal.loop-low-smaller
-loop-low-smaller c = omega arith
-
-pub loop-low-preserved : goal.loop-low-preserved
-loop-low-preserved c = omega (arith, c.held_below.ensures)
-
 pub returns : goal.returns
 returns c = sym (back_at _ _ _ _ _ c.loop-low.high (omega arith) c.loop-low.invariant.1 c.loop-low.invariant.2 c.loop-low.invariant.3)

@@ -4,7 +4,6 @@ use Prim.Native.Nat.{◌+◌}
 use native.Mathlib.Omega.{arith}
 use Rattle.model.specs.Ownership.{cell_owner, owner_of}
 use Rattle.model.proofs.HeldLaws.{held-le}
-use Rattle.model.proofs.SizedLaws.{course-high}
 use Rattle.mapping.proofs.CellLaws.{Led, led}
 use Rattle.mapping.proofs.dealing.element_directly.Goals as goal
 use Rattle.mapping.proofs.dealing.element_directly.Goals.{After-cells_below}
@@ -22,14 +21,8 @@ overflow_add-nth c =
       c.requires.stored.dealt.sized.offset-high,
     )
 
-pub overflow_mul-course : goal.overflow_mul-course
-overflow_mul-course c = omega (arith, course-high _ c.requires.stored.dealt.sized)
-
 pub overflow_mul-cell : goal.overflow_mul-cell
 overflow_mul-cell c = omega (arith, leads (goal.at.overflow_mul-cell c).After-cells_below)
-
-pub overflow_mul-cell-2 : goal.overflow_mul-cell-2
-overflow_mul-cell-2 c = omega (arith, leads (goal.at.overflow_mul-cell-2 c).After-cells_below)
 
 pub overflow_add-cell : goal.overflow_add-cell
 overflow_add-cell c = omega (arith, leads (goal.at.overflow_add-cell c).After-cells_below)

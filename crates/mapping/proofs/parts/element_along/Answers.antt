@@ -3,11 +3,5 @@ use native.Mathlib.Omega.{arith}
 use Rattle.mapping.proofs.PartLaws.{cut-le}
 use Rattle.mapping.proofs.parts.element_along.Goals as goal
 
-pub index_from-requires : goal.index_from-requires
-index_from-requires c = (c.requires.0, omega (arith, c.requires.1, c.requires.2))
-
 pub overflow_add-i : goal.overflow_add-i
 overflow_add-i c = omega (arith, c.index_from.ensures, c.requires.3, cut-le c.args.l c.requires.0 c.args.r.end.0, c.requires.0.size-high)
-
-pub returns : goal.returns
-returns c = cc c.index_from.ensures

@@ -17,9 +17,6 @@ use Rattle.mapping.proofs.PartLaws.{in-template, inside, one-run}
 use Rattle.mapping.proofs.parts.home_in_runs.Goals as goal
 use Rattle.mapping.proofs.parts.home_in_runs.Goals.{After-index_from-first, After-owner_in-owner, Start}
 
-pub cell_of-c-requires : goal.cell_of-c-requires
-cell_of-c-requires c = record { sized = c.requires.1; i_le_size = omega (arith, c.requires.2) }
-
 -- the list passed question 16, and the element's cell lies in a run
 listed : (c : Start) → Fitting c.args.l.cells c.args.l.processors c.args.sizes.now
 listed c = fitting c.args.l.cells c.args.l.processors c.args.sizes.now c.requires.0
@@ -31,7 +28,9 @@ in-a-run : (c : Start) → cell_of c.args.l c.args.i.0 < sum (words_of 4 c.args.
 in-a-run c = rw (listed c).words at (inside c.args.l c.requires.1 (sizes_of c.args.sizes.now) 0 (covered c) c.args.i.0 c.requires.2)
 
 pub owner_in-owner-requires : goal.owner_in-owner-requires
-owner_in-owner-requires c = (rw c.cell_of-c.ensures (in-a-run (goal.at.owner_in-owner-requires c).Start), omega (arith, (listed (goal.at.owner_in-owner-requires c).Start).long, c.requires.1.processors-high))
+owner_in-owner-requires c =
+    let at = goal.at.owner_in-owner-requires c in
+    (rw c.cell_of-c.ensures (in-a-run at.Start), omega (arith, (listed at.Start).long, c.requires.1.processors-high))
 
 -- the owner's run has the cell
 abbrev runs : (c : After-owner_in-owner) → List ℕ
@@ -60,14 +59,23 @@ home c =
     one-run c.args.l c.requires.1 (sizes_of c.args.sizes.now) (length c.args.sizes.now % 4) (let l = fitting c.args.l.cells c.args.l.processors c.args.sizes.now c.requires.0 in rw l.words l.covers) _
 
 pub index_from-first-requires : goal.index_from-first-requires
-index_from-first-requires c = (c.requires.1, omega (arith, starts (goal.at.index_from-first-requires c).After-owner_in-owner, (owner-run (runs (goal.at.index_from-first-requires c).After-owner_in-owner) (cell (goal.at.index_from-first-requires c).After-owner_in-owner) (in-a-run (goal.at.index_from-first-requires c).Start)).from, in-template c.args.l c.requires.1 c.args.i.0 c.requires.2, c.requires.1.cells-high))
+index_from-first-requires c =
+    let at = goal.at.index_from-first-requires c in
+    let o = at.After-owner_in-owner in
+    let run = owner-run (runs o) (cell o) (in-a-run at.Start) in
+    (c.requires.1, omega (arith, starts o, run.from, in-template c.args.l c.requires.1 c.args.i.0 c.requires.2, c.requires.1.cells-high))
 
 -- the first of them
 first-is : (c : After-index_from-first) → let rs : List ℕ = run_sizes (sizes_of c.args.sizes.now) in
     c.index_from-first.result.0 ≡ index_from c.args.l (run_start rs (run_owner rs (cell_of c.args.l c.args.i.0)))
 first-is c =
-    c.index_from-first.ensures ∙ ap (index_from c.args.l) ((c.owner_in-owner.ensures.start_value ∙ ap (run_start (words_of 4 c.args.sizes.now)) (c.owner_in-owner.ensures.processor_value ∙ ap (run_owner (words_of 4 c.args.sizes.now)) c.cell_of-c.ensures)))
-    ∙ ap (λ (ws : List ℕ). index_from c.args.l (run_start ws (run_owner ws ((cell_of c.args.l c.args.i.0))))) (sym ((fitting c.args.l.cells c.args.l.processors c.args.sizes.now c.requires.0)).words)
+    let cell = cell_of c.args.l c.args.i.0 in
+    let runs = words_of 4 c.args.sizes.now in
+    let owner = c.owner_in-owner.ensures.processor_value ∙ ap (run_owner runs) c.cell_of-c.ensures in
+    let fits = fitting c.args.l.cells c.args.l.processors c.args.sizes.now c.requires.0 in
+    c.index_from-first.ensures
+    ∙ ap (index_from c.args.l) (c.owner_in-owner.ensures.start_value ∙ ap (run_start runs) owner)
+    ∙ ap (λ (ws : List ℕ). index_from c.args.l (run_start ws (run_owner ws cell))) (sym fits.words)
 
 pub overflow_sub-x : goal.overflow_sub-x
 overflow_sub-x c = omega (arith, first-is (goal.at.overflow_sub-x c).After-index_from-first, ((home (goal.at.overflow_sub-x c).After-owner_in-owner).only c.args.i.0 c.requires.2 refl).0)

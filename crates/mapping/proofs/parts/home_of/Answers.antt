@@ -1,16 +1,13 @@
 -- `home_of` meets its contract.
-use mathlib.Core.Path.{◌≡◌, sym, ap, ◌∙◌, subst}
+use mathlib.Core.Path.{◌≡◌, sym, ap, ◌∙◌}
 use Prim.Native.Nat.{ℕ}
 use mathlib.Core.List.{List}
 use Rattle.model.specs.declared.Layout.{Layout}
 use Rattle.model.specs.declared.Dealing.{Dealing}
 use Rattle.model.specs.Mappings.{dealing_with}
 use Rattle.model.specs.Ownership.{owner_of, rank}
-use Rattle.mapping.specs.Parts.{owner_for, Listed}
+use Rattle.mapping.specs.Parts.{owner_for}
 use Rattle.mapping.proofs.parts.home_of.Goals as goal
-
-pub home_in_runs-requires : goal.home_in_runs-requires
-home_in_runs-requires c = (subst (λ (d : Dealing). Listed c.args.l (dealing_with d c.args.sizes.now)) c.in-GenBlock.is c.requires.0, c.requires.1, c.requires.2)
 
 -- the owner by the dealing that was told
 owner-told : (l : Layout) (bytes : List ℕ) {e d : Dealing} → e ≡ d
@@ -22,8 +19,3 @@ unfolding owner_of
 returns-in-Cyclic c =
     let o = owner-told c.args.l c.args.sizes.now c.in-Cyclic.is in
     (c.home_in_blocks.ensures.0 ∙ (λ j. o j c.args.i.0), c.home_in_blocks.ensures.1 ∙ (λ j. rank (o j) c.args.i.0))
-
-pub returns-in-GenBlock : goal.returns-in-GenBlock
-returns-in-GenBlock c =
-    let o = owner-told c.args.l c.args.sizes.now c.in-GenBlock.is in
-    (c.home_in_runs.ensures.0 ∙ (λ j. o j c.args.i.0), c.home_in_runs.ensures.1 ∙ (λ j. rank (o j) c.args.i.0))

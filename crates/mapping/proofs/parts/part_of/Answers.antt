@@ -23,13 +23,9 @@ run_of-requires c =
     let f = listed (goal.at.run_of-requires c).In-GenBlock in
     (omega (arith, f.long, c.requires.dealt.processor), omega (arith, f.long, c.requires.dealt.sized.processors-high))
 
-pub returns-in-Cyclic : goal.returns-in-Cyclic
-returns-in-Cyclic c = record { value = sym (ap (λ (d : Dealing). part_in (dealing_with d c.args.sizes.now) c.args.q) c.in-Cyclic.is); low = tt }
-
-pub returns-in-GenBlock : goal.returns-in-GenBlock
-returns-in-GenBlock c =
-    let same = ap (λ (ws : List ℕ). Run (record { start = record { 0 = run_start ws c.args.q }; end = record { 0 = run_start ws (suc c.args.q) } })) (sym (listed (goal.at.returns-in-GenBlock c).In-GenBlock).words) in record {
-      value = ap Run c.run_of.ensures.value ∙ same
-          ∙ sym (ap (λ (d : Dealing). part_in (dealing_with d c.args.sizes.now) c.args.q) c.in-GenBlock.is);
-      low = c.run_of.ensures.start_le_end;
-    }
+pub returns-in-GenBlock-clause-value : goal.returns-in-GenBlock-clause-value
+returns-in-GenBlock-clause-value c =
+    let words = (listed (goal.at.returns-in-GenBlock-clause-value c).In-GenBlock).words in
+    ap Run c.run_of.ensures.value
+    ∙ ap (λ (ws : List ℕ). Run (record { start = record { 0 = run_start ws c.args.q }; end = record { 0 = run_start ws (suc c.args.q) } })) (sym words)
+    ∙ sym (ap (λ (d : Dealing). part_in (dealing_with d c.args.sizes.now) c.args.q) c.in-GenBlock.is)

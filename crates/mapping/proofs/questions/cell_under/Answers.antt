@@ -1,4 +1,5 @@
 -- `cell_under` meets its contract: product, sum and difference fit, so that each is read back as the number it is.
+use Rattle.std.proofs.Common.{rules}
 use Prim.Native.Nat.{◌^◌, ◌≤◌}
 use mathlib.Core.Path.{◌≡◌}
 use native.Mathlib.Omega.{arith}
@@ -14,17 +15,17 @@ use Rattle.mapping.proofs.questions.cell_under.Goals.{Start}
 
 further : (c : Start) → ℤ
 further c =
-    c.args.a *ℤ c.args.j
+    c.args.m.stride *ℤ c.args.j
 
 far : (c : Start) → nat_abs (further c) ≤ 2 ^ 43
 unfolding further
 far c =
-    omega (arith, size-mul c.args.a c.args.j, product_le most_stride 2147483647 c.requires.stride c.requires.index)
+    omega (arith, size-mul c.args.m.stride c.args.j, product_le most_stride 2147483647 c.requires.stride c.requires.index)
 
-product : (c : Start) → back w64 c.args.a *ℤ back w64 c.args.j ≡ (further c)
+product : (c : Start) → back w64 c.args.m.stride *ℤ back w64 c.args.j ≡ (further c)
 unfolding further
 product c =
-    λ i. to_z-of_z w64 c.args.a c.ranges.a i *ℤ to_z-of_z w64 c.args.j c.ranges.j i
+    λ i. to_z-of_z w64 c.args.m.stride (search rules) i *ℤ to_z-of_z w64 c.args.j c.ranges.j i
 
 product-fits : (c : Start) → SFits w64 (further c)
 product-fits c =
@@ -32,33 +33,29 @@ product-fits c =
 
 on : (c : Start) → ℤ
 on c =
-    (further c) +ℤ c.args.b
+    (further c) +ℤ c.args.m.offset
 
-sum : (c : Start) → back w64 (back w64 c.args.a *ℤ back w64 c.args.j) +ℤ back w64 c.args.b ≡ (on c)
+sum : (c : Start) → back w64 (back w64 c.args.m.stride *ℤ back w64 c.args.j) +ℤ back w64 c.args.m.offset ≡ (on c)
 unfolding on
 sum c =
-    λ i. back_as w64 (product c) (product-fits c) i +ℤ to_z-of_z w64 c.args.b c.ranges.b i
+    λ i. back_as w64 (product c) (product-fits c) i +ℤ to_z-of_z w64 c.args.m.offset (search rules) i
 
 on-small : (c : Start) → nat_abs (on c) ≤ 2 ^ 44
 unfolding on
 on-small c =
-    omega (arith, (far c), size-add (further c) c.args.b, c.requires.offset)
+    omega (arith, (far c), size-add (further c) c.args.m.offset, c.requires.offset)
 
 sum_fits : (c : Start) → SFits w64 (on c)
 sum_fits c =
     small-fits w64 (on c) (omega (arith, (on-small c)))
 
-cell : (c : Start) → back w64 (back w64 (back w64 c.args.a *ℤ back w64 c.args.j) +ℤ back w64 c.args.b) -ℤ back w64 c.args.origin ≡ (on c) -ℤ c.args.origin
+cell : (c : Start) → back w64 (back w64 (back w64 c.args.m.stride *ℤ back w64 c.args.j) +ℤ back w64 c.args.m.offset) -ℤ back w64 c.args.m.origin ≡ (on c) -ℤ c.args.m.origin
 cell c =
-    λ i. back_as w64 (sum c) (sum_fits c) i -ℤ to_z-of_z w64 c.args.origin c.ranges.origin i
+    λ i. back_as w64 (sum c) (sum_fits c) i -ℤ to_z-of_z w64 c.args.m.origin (search rules) i
 
-cell-fits : (c : Start) → SFits w64 ((on c) -ℤ c.args.origin)
+cell-fits : (c : Start) → SFits w64 ((on c) -ℤ c.args.m.origin)
 cell-fits c =
-    small-fits w64 ((on c) -ℤ c.args.origin) (omega (arith, (on-small c), size-sub (on c) c.args.origin, c.requires.origin))
-
-pub overflow_mul-result : goal.overflow_mul-result
-unfolding further
-overflow_mul-result c = fits-as w64 (product (goal.at.overflow_mul-result c).Start) (product-fits (goal.at.overflow_mul-result c).Start)
+    small-fits w64 ((on c) -ℤ c.args.m.origin) (omega (arith, (on-small c), size-sub (on c) c.args.m.origin, c.requires.origin))
 
 pub overflow_add-result : goal.overflow_add-result
 unfolding on further

@@ -1,17 +1,11 @@
 -- `natural` meets its contract.
 use mir.Syntax.{w64}
 use mir.ValLaws.{to_z-of_z}
-use mir.Facts.{Fits-nat_abs}
-use Rattle.mapping.proofs.Signs.{below, not-below, kept}
+use Rattle.mapping.proofs.Signs.{below, kept}
 use Rattle.mapping.proofs.questions.natural.Goals as goal
 
 pub returns-then-x-lt0 : goal.returns-then-x-lt0
 returns-then-x-lt0 c = below c.args.x (rw (to_z-of_z w64 c.args.x c.ranges.x) at c.if-x-lt0.true)
-
-pub overflow_cast-result : goal.overflow_cast-result
-overflow_cast-result c =
-    rw (to_z-of_z w64 c.args.x c.ranges.x)
-    (not-below c.args.x (rw (to_z-of_z w64 c.args.x c.ranges.x) at c.if-x-lt0.false), Fits-nat_abs tt c.ranges.x)
 
 pub returns : goal.returns
 returns c =

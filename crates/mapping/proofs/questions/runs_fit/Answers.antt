@@ -14,10 +14,6 @@ use Rattle.model.proofs.QuestionLaws.{between_is}
 use Rattle.mapping.proofs.questions.runs_fit.Goals as goal
 use Rattle.mapping.proofs.questions.runs_fit.Goals.{After-within, Then-within}
 
--- the answer to question 2, of the parameter
-asked : (c : After-within) → c.within.result ≡ between (pos 1) (pos 1024) c.args.p
-asked c = read_of w64 (between (pos 1) (pos 1024)) c.args.p c.ranges.p c.within.ensures
-
 holds : (c : Then-within) → between (pos 1) (pos 1024) c.args.p ≡ true
 holds c = sym ((read_of w64 (between (pos 1) (pos 1024)) c.args.p c.ranges.p c.within.ensures)) ∙ c.if-within.true
 
@@ -32,6 +28,3 @@ returns-then-within c =
     let t = read_of w64 nat c.args.t c.ranges.t c.natural-then-within.ensures in
     let p = read_of w64 nat c.args.p c.ranges.p c.natural.ensures in
     rw (holds (goal.at.returns-then-within c).Then-within) (c.sizes_fit.ensures ∙ (λ i. sizes_fit (pos (t i)) (pos (p i)) (sizes_of c.args.sizes.now) (length c.args.sizes.now % 4)))
-
-pub returns : goal.returns
-returns c = rw (sym (asked (goal.at.returns c).After-within) ∙ c.if-within.false)

@@ -1,4 +1,5 @@
-use Rattle.std.proofs.Common.{◌≡◌, ℕ, ◌+◌, ◌*◌, ◌/◌, ◌<◌, List, length, get_or, refl, ◌∙◌, arith, drop-cons}
+-- `word_at` meets its contract: the four bytes are those that the word stands for.
+use Rattle.std.proofs.Common.{◌≡◌, ℕ, ◌+◌, ◌*◌, ◌/◌, ◌<◌, List, length, get_or, refl, arith, drop-cons}
 use Prim.Native.Nat.{suc}
 use Rattle.numbers.specs.Words.{value_of, words_of}
 use Rattle.numbers.proofs.WordLaws.{word_at}
@@ -15,4 +16,4 @@ four_bytes bs n i at h =
     (omega arith)
 
 pub returns : goal.returns
-returns c = c.word_of.ensures ∙ four_bytes c.args.bytes.now c.args.n _ refl c.requires
+returns c = omega (arith, c.from_le_bytes.ensures, four_bytes c.args.bytes.now c.args.n _ refl c.requires)

@@ -10,11 +10,11 @@ fill_from-r-requires c = starts c.args.x c.args.q c.requires.0 c.requires.1
 pub overflow_sub-result : goal.overflow_sub-result
 overflow_sub-result c =
     let x = listed c.args.x in
-    entries-le x c.requires.0.fair.accepted c.args.q c.requires.1 c.args.list.now c.room_for-room.result c.room_for-room.ensures
+    entries-le x c.requires.0.fair.accepted c.args.q c.requires.1 c.args.list.now c.min-room.result c.min-room.ensures
     (c.fill_from-r.ensures x c.requires.0.fair.accepted (in_blocks c.args.x c.requires.0.fair c.args.q))
 
 pub returns : goal.returns
 returns c =
     let x = listed c.args.x in
-    went x c.requires.0.fair.accepted c.args.q c.requires.1 c.args.list.now c.room_for-room.result c.room_for-room.ensures
+    went x c.requires.0.fair.accepted c.args.q c.requires.1 c.args.list.now c.min-room.result c.min-room.ensures
     (c.fill_from-r.ensures x c.requires.0.fair.accepted (in_blocks c.args.x c.requires.0.fair c.args.q)) c.fill_from-r.auto.list

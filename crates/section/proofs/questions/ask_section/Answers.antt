@@ -1,42 +1,18 @@
--- `ask_section` meets its contract: the fields of 64 bits are read back as the numbers they are.
-use mathlib.Core.Path.{◌≡◌, sym, ◌∙◌, subst}
-use borrow.Author.Rules.{rules}
-use mir.Syntax.{w64}
-use mir.ValLaws.{to_z-of_z}
-use Rattle.model.specs.Mappings.{Section, section_with}
-use Rattle.mapping.specs.Answers as mapping
-use Rattle.mapping.proofs.Signs.{bound-read}
-use Rattle.section.specs.declared.questions.Asked.{Asked}
-use Rattle.section.specs.Answers.{asked_in, asked_of, Sound}
+-- `ask_section` meets its contract: from the answers about the mapping and about the triplet.
+use mathlib.Core.Path.{sym, ◌∙◌, subst}
+use Rattle.model.specs.Mappings.{section_with}
+use Rattle.model.proofs.RefusalLaws.{passed_on}
+use Rattle.section.specs.Answers.{Sound}
 use Rattle.section.proofs.SectionAnswers.{sound, mapping-accepted, mapping-refused}
 use Rattle.section.proofs.questions.ask_section.Goals as goal
 
-answered : (x : Section) {r : Asked} → r ≡ asked_of x → (r ≡ asked_of x) × Sound r
-answered x e = (e, subst Sound (sym e) (sound x))
+pub returns-in_err-array-clause-value : goal.returns-in_err-array-clause-value
+returns-in_err-array-clause-value c =
+    rw (passed_on c.from_residual.result c.in_err-array.field-0.0 c.from_residual.ensures.1)
+    (mapping-refused (section_with c.args.x c.args.sizes.now) _ (sym c.in_err-array.ensures.value))
 
-pub ask_mapping-requires : goal.ask_mapping-requires
-ask_mapping-requires c = c.list_fits-listed.ensures
-
-pub triplet_asked-requires : goal.triplet_asked-requires
-triplet_asked-requires c =
-    let sound = subst mapping.Sound c.in-By.is c.ask_mapping.ensures.sound in
-    rw (bound-read c.in-By.lower sound.1) sound.1
-
-pub returns-in-By : goal.returns-in-By
-returns-in-By c =
+pub returns : goal.returns
+returns c =
     let x = section_with c.args.x c.args.sizes.now in
-    let sound = subst mapping.Sound c.in-By.is c.ask_mapping.ensures.sound in
-    let lower = bound-read c.in-By.lower sound.1 in
-    let l = to_z-of_z w64 x.triplet.lower (search rules) in
-    let h = to_z-of_z w64 x.triplet.upper (search rules) in
-    let step = to_z-of_z w64 x.triplet.stride (search rules) in
-    let whole = answered x
-    (c.triplet_asked.ensures ∙ (λ i. asked_in c.in-By.l (lower i) (l i) (h i) (step i))
-    ∙ mapping-accepted x _ _ (sym c.ask_mapping.ensures.value ∙ c.in-By.is)) in
-    record { value = whole.0; sound = whole.1 }
-
-pub returns-in-Refused : goal.returns-in-Refused
-returns-in-Refused c =
-    let x = section_with c.args.x c.args.sizes.now in
-    let whole = answered x (mapping-refused x _ (sym c.ask_mapping.ensures.value ∙ c.in-Refused.is)) in
-    record { value = whole.0; sound = whole.1 }
+    let e = c.triplet_asked.ensures ∙ mapping-accepted x c.in_ok-array.array (sym c.in_ok-array.ensures.value) in
+    record { value = e; sound = subst Sound (sym e) (sound x) }

@@ -1,6 +1,6 @@
--- `fall` meets its contract.
+-- `fall` meets its contract: the sums fit.
 use native.Mathlib.Omega.{arith}
-use Rattle.section.proofs.FallLaws.{fall-count, fall-courses, fallen}
+use Rattle.section.proofs.FallLaws.{fall-count, fall-courses}
 use Rattle.section.proofs.steps.fall.Goals as goal
 
 pub overflow_mul-result : goal.overflow_mul-result
@@ -14,6 +14,3 @@ overflow_mul-result-2 c = omega (arith, fall-courses c.args.x c.args.y c.args.k 
 
 pub overflow_add-result-2 : goal.overflow_add-result-2
 overflow_add-result-2 c = omega (arith, fall-courses c.args.x c.args.y c.args.k c.turns-j.result c.requires c.turns-j.ensures.1)
-
-pub returns : goal.returns
-returns c = fallen c.args.x c.args.y c.args.k c.turns-j.result c.requires c.turns-j.ensures.1 c.turns-j.ensures.0 c.turns-j.ensures.2

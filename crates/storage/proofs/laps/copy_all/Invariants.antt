@@ -4,7 +4,7 @@ use Rattle.storage.proofs.LapLaws.{Along}
 use Rattle.storage.proofs.laps.copy_all.Given as goal
 
 abbrev pub invariant-loop-r : goal.invariant-loop-r
-invariant-loop-r l = Along l.loading l.l l.p l.from l.initial.row l.initial.to l.row l.to l.r
+invariant-loop-r l = Along l.loading l.layout l.pace l.from l.initial.row l.initial.to l.row l.to l.r
 
 abbrev pub decreases-loop-r : goal.decreases-loop-r
-decreases-loop-r l = l.l.size - l.r.index.0
+decreases-loop-r l = l.layout.size - l.r.index.0

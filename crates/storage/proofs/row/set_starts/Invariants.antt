@@ -1,5 +1,4 @@
--- `set_starts` meets its contract. The invariant: the pointers below q are set, and start is that of q. The measure: those that are left.
-use Prim.Native.Nat.{◌-◌, ◌≤◌}
+-- `set_starts` meets its contract. The invariant: the pointers below q are set, and start is that of q.
 use mathlib.Core.Path.{◌≡◌}
 use Rattle.model.specs.Ownership.{owner_of}
 use Rattle.model.specs.Storages.{storage_start}
@@ -7,7 +6,4 @@ use Rattle.storage.specs.Copying.{StartsIn}
 use Rattle.storage.proofs.row.set_starts.Given as goal
 
 abbrev pub invariant-loop-q : goal.invariant-loop-q
-invariant-loop-q l = (l.q ≤ l.l.processors) × (l.start ≡ storage_start (owner_of l.l) l.l.size l.q) × StartsIn l.l l.q l.initial.row l.row
-
-abbrev pub decreases-loop-q : goal.decreases-loop-q
-decreases-loop-q l = l.l.processors - l.q
+invariant-loop-q l = (l.start ≡ storage_start (owner_of l.l) l.l.size l.q) × StartsIn l.l l.q l.initial.row l.row

@@ -1,13 +1,7 @@
 -- `fill_by_classes` meets its contract.
-use Prim.Native.Nat.{◌-◌, ◌/◌}
-use mathlib.Core.Path.{◌≡◌}
-use lib.ListN.{length}
 use Rattle.walk.specs.Learning.{class_of}
 use Rattle.walk.proofs.LearnBytes.{EvenBytes}
 use Rattle.walk.proofs.classes.fill_by_classes.Given as goal
 
 abbrev pub invariant-loop-n : goal.invariant-loop-n
-invariant-loop-n l = (length l.classes ≡ length l.initial.classes) × (l.room ≡ length l.initial.list / 4) × EvenBytes l.f l.initial.s l.initial.list (class_of l.f.elements l.f.moves) l.classes l.list l.s l.n
-
-abbrev pub decreases-loop-n : goal.decreases-loop-n
-decreases-loop-n l = l.room - l.n
+invariant-loop-n l = EvenBytes l.f l.initial.s l.initial.list (class_of l.f.elements l.f.moves) l.classes l.list l.s l.n

@@ -22,13 +22,13 @@ unfolding stepped
 overflow_sub-tries c = omega (arith, ap (λ (s : State). s.paid) c.step-next.ensures)
 
 pub nonzero_rem-c : goal.nonzero_rem-c
-nonzero_rem-c c = rw c.period_of.ensures (period-bounds _ c.requires.0.sized).0
+nonzero_rem-c c = rw c.period.ensures (period-bounds _ c.requires.0.sized).0
 
 pub overflow_add-c : goal.overflow_add-c
-overflow_add-c c = omega (arith, c.requires.2.column, c.requires.1.block, mod-le c.args.s.column c.period_of.result, cost (goal.at.overflow_add-c c).After-step-next, tries-few c.args.f.moves c.args.s.column)
+overflow_add-c c = omega (arith, c.requires.2.column, c.requires.1.block, mod-le c.args.s.column c.period.result, cost (goal.at.overflow_add-c c).After-step-next, tries-few c.args.f.moves c.args.s.column)
 
 pub returns : goal.returns
 unfolding stepped
 returns c =
-    let e = rw (c.period_of.ensures, cost (goal.at.returns c).After-step-next, c.step-next.ensures) at c.move_by-add.ensures in
+    let e = rw (c.period.ensures, cost (goal.at.returns c).After-step-next, c.step-next.ensures) at c.move_by-add.ensures in
     rw (c.stop_at.ensures, c.moved_on.ensures, c.step-next.ensures, ← e.0) (search rules, e.2)

@@ -4,4 +4,4 @@ use Rattle.walk.proofs.CopyLaws.{doubling-twice}
 use Rattle.walk.proofs.copies.copy_periods.Goals as goal
 
 pub loop-distance-preserved : goal.loop-distance-preserved
-loop-distance-preserved c = rw c.sum-step.ensures.0 (doubling-twice c.requires.2 (omega arith) c.loop-distance.invariant c.repeat.ensures)
+loop-distance-preserved c = doubling-twice c.requires.2 (omega arith) c.loop-distance.invariant c.repeat.ensures

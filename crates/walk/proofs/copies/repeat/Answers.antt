@@ -4,12 +4,9 @@ use Rattle.walk.proofs.CopyLaws.{extends-none, extends-more}
 use Rattle.walk.proofs.copies.repeat.Goals as goal
 
 pub loop-j-init : goal.loop-j-init
-loop-j-init c = (omega arith, c.requires.1, extends-none _ _ _)
+loop-j-init c = extends-none _ _ _
 
 pub loop-j-preserved : goal.loop-j-preserved
-loop-j-preserved c = (
-  omega arith,
-  omega arith,
-  rw (c.put_entry.ensures, c.sum.ensures.0, c.word_at-x.ensures)
-      (extends-more c.requires.0 c.loop-j.invariant.0 (omega arith) c.loop-j.invariant.2),
-)
+loop-j-preserved c =
+    rw (c.put_entry.ensures, c.word_at-x.ensures)
+    (extends-more c.requires.0 (omega arith) (omega arith) c.loop-j.invariant)

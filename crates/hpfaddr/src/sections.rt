@@ -68,6 +68,8 @@ impl From<SectionSteps> for HpfSteps {
     }
 }
 
+// Called, it would copy what it is given and what it answers.
+#[inline(always)]
 pub(crate) fn steps_of(x: Section, sizes: &[u8]) -> HpfSteps
     ensures result_value { steps_fields result ≡ section_steps (section_with x sizes.now) }
     ensures steps_fit { StepsFit (steps_fields result) }

@@ -28,7 +28,7 @@ fn main(rt: HostRuntime) -> io::Result<()> {
     // Not a `for`: a piece is borrowed from `out`, into which the next one is written.
     while 0 < piece.bytes {
         rt.write_all(&out[..piece.bytes])?;
-        piece = print::go_on(content, piece, &mut list, &mut out);
+        piece = print::go_on(&content, piece, &mut list, &mut out);
     }
     Ok(())
 }

@@ -33,12 +33,12 @@ pub fn begin(sheet: &[u8], n: usize, out: &mut [u8]) -> Opened
 
 // The next piece, after one that was given to be written; it has no bytes once all was given. What
 // the list holds afterwards is open too: each fill puts its addresses there anew, and none reads
-// what it held.
-pub fn go_on(content: Content, piece: Piece, list: &mut [u32], out: &mut [u8]) -> Piece
+// what it held. The content is lent: a copy of its 9 KB would cost more than most pieces.
+pub fn go_on(content: &Content, piece: Piece, list: &mut [u32], out: &mut [u8]) -> Piece
     requires { Stands piece.next.turn × Room list.old out.old }
-    ensures waits { Waits out.new result × (to_give content result + piece.bytes ≡ to_give content piece) }
-    ensures by_index { (s given : List ℕ) → Gives s given content out.old piece
-        → Gives s (given ++ take piece.bytes out.old) content out.new result }
+    ensures waits { Waits out.new result × (to_give content.now result + piece.bytes ≡ to_give content.now piece) }
+    ensures by_index { (s given : List ℕ) → Gives s given content.now out.old piece
+        → Gives s (given ++ take piece.bytes out.old) content.now out.new result }
 {
     let left = piece.next;
     next_piece(content, left, list, out)

@@ -18,9 +18,9 @@ pub struct Left {
 pub type Piece = Part<Left>;
 
 // The first line of section j, if the sheet has one.
-fn section_piece(content: Content, j: u64, out: &mut [u8]) -> Piece
+fn section_piece(content: &Content, j: u64, out: &mut [u8]) -> Piece
     requires { 64 ≤ length out.old }
-    ensures { PieceOf content (sections_from content j) out.new result }
+    ensures { PieceOf content.now (sections_from content.now j) out.new result }
 {
     if content.sections.count as u64 <= j {
         return Piece {
@@ -31,7 +31,7 @@ fn section_piece(content: Content, j: u64, out: &mut [u8]) -> Piece
             },
         };
     }
-    let part = first_part(j, section_of(content, j), out);
+    let part = first_part(j, section_of(*content, j), out);
     Piece {
         bytes: part.bytes,
         next: Left {
@@ -56,7 +56,7 @@ pub fn first_piece(s: &[u8], out: &mut [u8]) -> Opened
     match read_sheet(s) {
         Ok(content) => Opened {
             content,
-            piece: section_piece(content, 0, out),
+            piece: section_piece(&content, 0, out),
         },
         Err(Malformed(place)) => Opened {
             content: NO_CONTENT,
@@ -72,9 +72,9 @@ pub fn first_piece(s: &[u8], out: &mut [u8]) -> Opened
 }
 
 // The piece that comes next.
-pub fn next_piece(content: Content, left: Left, list: &mut [u32], out: &mut [u8]) -> Piece
+pub fn next_piece(content: &Content, left: Left, list: &mut [u32], out: &mut [u8]) -> Piece
     requires { Stands left.turn × Room list.old out.old }
-    ensures { PieceOf content (left_text content left) out.new result }
+    ensures { PieceOf content.now (left_text content.now left) out.new result }
 {
     let part = next_part(left.turn, list, out);
     if part.bytes == 0 {

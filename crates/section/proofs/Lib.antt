@@ -1,5 +1,8 @@
 -- Laws of accepted sections, and of the answers of this crate.
 pub mod StridedLaws
+-- the count
+pub mod Differences
+pub mod CaseLaws
 -- the questions and what they lead to
 pub mod TripletAnswers
 pub mod StridedSections

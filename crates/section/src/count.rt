@@ -6,19 +6,22 @@ ghost use Rattle.model.specs.Cases.{case_of};
 
 use model::{Case, Declared, Position, Triplet};
 
-// Which case l:h:s is.
+// Which case l:h:s is. The distance that is tested is the one that is divided.
 fn case_of(x: Triplet) -> Case
+    requires { in_range x ≡ true }
     ensures { result ≡ case_of x }
 {
-    if 0 < x.stride && x.lower <= x.upper {
+    let up = x.upper - x.lower;
+    if 0 < x.stride && 0 <= up {
         return Case::Forward {
-            distance: x.upper.abs_diff(x.lower),
+            distance: up.unsigned_abs(),
             stride: x.stride.unsigned_abs(),
         };
     }
-    if x.stride < 0 && x.upper <= x.lower {
+    let down = x.lower - x.upper;
+    if x.stride < 0 && 0 <= down {
         return Case::Backward {
-            distance: x.lower.abs_diff(x.upper),
+            distance: down.unsigned_abs(),
             stride: x.stride.unsigned_abs(),
         };
     }

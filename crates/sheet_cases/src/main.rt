@@ -60,11 +60,16 @@ fn right(x: Section) -> bool {
         && [t.lower, t.upper, t.stride] == [0, 11, 5]
 }
 
-fn listed(rt: &impl Print, content: Content) -> io::Result<()> {
-    for part in [content.templates, content.arrays, content.sections] {
-        println!(rt; "{}", part.count)?;
+// The content is lent, and its parts are not listed as such: each copy of it takes 9 KB of the stack.
+fn listed(rt: &impl Print, content: &Content) -> io::Result<()> {
+    for count in [
+        content.templates.count,
+        content.arrays.count,
+        content.sections.count,
+    ] {
+        println!(rt; "{count}")?;
     }
-    println!(rt; "{}", u64::from(right(section_of(content, 0))))
+    println!(rt; "{}", u64::from(right(section_of(*content, 0))))
 }
 
 fn main(rt: HostRuntime) -> io::Result<()> {
@@ -76,5 +81,8 @@ fn main(rt: HostRuntime) -> io::Result<()> {
     let read = io::copy(&mut rt.stdin().take(SHEET as u64), &mut room)?;
     // No more than `take` lets through, but the contract of `copy` does not say so.
     let n = (read as usize).min(SHEET);
-    listed(&rt, read_sheet(&buffer[..n]).unwrap_or(NO_CONTENT))
+    match read_sheet(&buffer[..n]) {
+        Ok(content) => listed(&rt, &content),
+        Err(_) => listed(&rt, &NO_CONTENT),
+    }
 }

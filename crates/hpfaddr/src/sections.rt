@@ -68,7 +68,7 @@ impl From<SectionSteps> for HpfSteps {
     }
 }
 
-// Called, it would copy what it is given and what it answers.
+// Inlined: a call would copy the section that it is given and the steps that it answers.
 #[inline(always)]
 pub(crate) fn steps_of(x: Section, sizes: &[u8]) -> HpfSteps
     ensures result_value { steps_fields result ≡ section_steps (section_with x sizes.now) }

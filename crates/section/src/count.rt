@@ -12,14 +12,16 @@ fn case_of(x: Triplet) -> Case
     ensures { result ≡ case_of x }
 {
     let up = x.upper - x.lower;
-    if 0 < x.stride && 0 <= up {
+    let rises = 0 <= up;
+    if 0 < x.stride && rises {
         return Case::Forward {
             distance: up.unsigned_abs(),
             stride: x.stride.unsigned_abs(),
         };
     }
     let down = x.lower - x.upper;
-    if x.stride < 0 && 0 <= down {
+    let falls = 0 <= down;
+    if x.stride < 0 && falls {
         return Case::Backward {
             distance: down.unsigned_abs(),
             stride: x.stride.unsigned_abs(),

@@ -60,7 +60,7 @@ fn right(x: Section) -> bool {
         && [t.lower, t.upper, t.stride] == [0, 11, 5]
 }
 
-// The content is lent, and its parts are not listed as such: each copy of it takes 9 KB of the stack.
+// The content is lent, and the counts alone are listed: a copy of it, or of its three parts, takes 9 KB of the stack.
 fn listed(rt: &impl Print, content: &Content) -> io::Result<()> {
     for count in [
         content.templates.count,

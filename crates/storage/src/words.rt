@@ -12,7 +12,7 @@ pub fn copy_few(from: &[u64], at: usize, to: &mut [u64], start: usize, n: usize)
     }
 }
 
-// The same over two slices of n words, of which the compiler makes one copy: that takes less time for four words or more.
+// The same over two slices of n words, which the compiler copies four at a time: that takes less time for four words or more.
 // Not `copy_from_slice`, for which the archive would need `memmove` from outside.
 pub fn copy_run(from: &[u64], at: usize, to: &mut [u64], start: usize, n: usize)
     requires { (at + n ≤ length from.now) × (start + n ≤ length to.old) }

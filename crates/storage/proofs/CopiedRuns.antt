@@ -1,43 +1,28 @@
 -- Words copied from consecutive places to consecutive places.
-use Prim.Native.Nat.{ℕ, zero, suc, ◌+◌, ◌-◌, ◌≤◌}
-use mathlib.Core.Path.{◌≡◌, sym, ap, ◌∙◌}
-use mathlib.Core.List.{List, ◌++◌, append_assoc, append-nil}
+use Prim.Native.Nat.{ℕ, ◌+◌, ◌≤◌}
+use mathlib.Core.Path.{◌≡◌, refl, sym, ap, ◌∙◌}
+use mathlib.Core.List.{List}
 use native.Mathlib.Omega.{arith}
-use native.Mathlib.Nat.{zero-add}
-use lib.ListN.{length, take, drop, length-drop}
-use lib.Seq.{paste, paste-zero, paste-suc, drop-drop, get_or-drop, length-take-le, take-length, drop-length}
-use borrow.Rule.Slice.PartMut.{put_mid}
-use Rattle.std.specs.List.{between}
-use Rattle.model.specs.Storages.{copied}
+use lib.ListN.{length}
+use Rattle.model.proofs.CopyLaws.{copied_at, copied-joins, copied-same, copied-alike}
 use Rattle.storage.specs.Copying.{copied_run}
 
--- a run put over a part of the list
-pasted : (at start n : ℕ) (s l : List ℕ) → at + n ≤ length s → start + n ≤ length l → copied_run at start n s l ≡ paste l start (drop at s) n
-unfolding copied
-pasted at start zero s l h k = paste-zero l start (drop at s)
-pasted at start (suc n) s l h k =
-    rw (pasted at start n s l (omega arith) (omega arith), sym (get_or-drop at s n 0))
-    (paste-suc l start (drop at s) n 0 (omega arith) (omega (arith, length-drop at s)))
+-- some, and more after them
+pub runs-join : (at start j r : ℕ) (s l : List ℕ)
+    → copied_run (at + j) (start + j) r s (copied_run at start j s l) ≡ copied_run at start (j + r) s l
+runs-join at start j r s l =
+    sym (copied-joins (λ i. at + i) (λ i. start + i) j r s l
+    ∙ copied-same _ _ _ _ r s (copied_run at start j s l) (λ i h. omega arith) (λ i h. omega arith))
 
--- a run of all words of a list over all of another
-run-whole : (n : ℕ) (s l : List ℕ) → length s ≡ n → length l ≡ n → copied_run 0 0 n s l ≡ s
-run-whole n s l h k =
-    pasted 0 0 n s l (omega (arith, h)) (omega (arith, k))
-    ∙ ap (λ (m : ℕ). take n s ++ drop m l) (zero-add n)
-    ∙ ap (λ (x : List ℕ). x ++ drop n l) (ap (λ (m : ℕ). take m s) (sym h) ∙ take-length s)
-    ∙ ap (λ (x : List ℕ). s ++ x) (ap (λ (m : ℕ). drop m l) (sym k) ∙ drop-length l)
-    ∙ append-nil s
+-- the same after a list that has the first of them
+pub run_after : (at start j r n : ℕ) (s l l' : List ℕ) → l' ≡ copied_run at start j s l → j + r ≡ n
+    → copied_run (at + j) (start + j) r s l' ≡ copied_run at start n s l
+run_after at start j r n s l l' e h =
+    ap (copied_run (at + j) (start + j) r s) e ∙ runs-join at start j r s l ∙ ap (λ (m : ℕ). copied_run at start m s l) h
 
--- the n words that lie between two places
-length-between : (at n : ℕ) (s : List ℕ) → at + n ≤ length s → length (between at (at + n) s) ≡ n
-length-between at n s h = length-take-le (at + n - at) (drop at s) (omega (arith, length-drop at s, h)) ∙ omega arith
-
-pub run-between : (at start n : ℕ) (s l : List ℕ) → at + n ≤ length s → start + n ≤ length l
-    → copied_run 0 0 n (between at (at + n) s) (between start (start + n) l) ≡ between at (at + n) s
-run-between at start n s l h k = run-whole n _ _ (length-between at n s h) (length-between start n l k)
-
-pub run-over : (at start n : ℕ) (s l ys : List ℕ) → at + n ≤ length s → start + n ≤ length l → ys ≡ between at (at + n) s
-    → put_mid start (start + n - start) l ys ≡ copied_run at start n s l
-run-over at start n s l ys h k e =
-    let less : (i : ℕ) → i + n - i ≡ n = λ i. omega arith in
-    rw (e, less start, less at, drop-drop n start l, ← append_assoc) (sym (pasted at start n s l h k))
+-- by a list between
+pub by-between : (at start n : ℕ) (s w l : List ℕ) → n ≤ length w
+    → copied_run 0 start n (copied_run at 0 n s w) l ≡ copied_run at start n s l
+by-between at start n s w l h =
+    copied-alike _ _ _ _ n (copied_run at 0 n s w) s l
+    (λ i k. copied_at (λ j. at + j) (λ j. 0 + j) n s w (λ x y a b e. omega arith) (λ x a. omega arith) i k) (λ i k. refl)
